@@ -1,0 +1,9 @@
+pub mod Comparisons
+pub mod Divisions
+pub mod IntegerRoots
+pub mod Integers
+pub mod KnownValues
+pub mod Orders
+pub mod RootBounds
+pub mod SignedSquares
+pub mod Squares

@@ -1,0 +1,3 @@
+pub mod Comparisons
+pub mod Division
+pub mod Roots
