@@ -1,0 +1,5 @@
+pub mod Enclosure
+pub mod Formulas
+pub mod Interval
+pub mod Nests
+pub mod Widths

@@ -1,0 +1,63 @@
+ghost use Rattle.std.specs.Prelude.{◌<◌, ◌^◌, pos, ◌≤ℤ◌, unsigned_abs};
+ghost use Rattle.gd_interval.specs.Enclosure.{EnclosesRoot};
+ghost use Rattle.gd_interval.specs.Formulas.{IsRootBelow, IsRootAbove};
+
+use crate::iv::{Iv, between};
+use gd_int::{isqrt_ceil, isqrt_floor};
+
+/// The root of every member of `a`, rounded outward, in the unit whose square `a` has.
+/// No member is negative, and the upper end is below 2^126.
+#[inline]
+pub fn root(a: Iv) -> Iv
+    requires lo { pos 0 ≤ℤ a.lo }
+    requires hi { unsigned_abs a.hi < 2 ^ 126 }
+    ensures lo { IsRootBelow result.lo a.lo }
+    ensures hi { IsRootAbove result.hi a.hi }
+    ensures encloses { EnclosesRoot a result }
+{
+    between(root_below(a.lo), root_above(a.hi))
+}
+
+/// The root, rounded down.
+#[inline(always)]
+fn root_below(a: i128) -> i128
+    requires { pos 0 ≤ℤ a }
+    ensures { IsRootBelow result a }
+{
+    isqrt_floor(a as u128) as i128
+}
+
+/// The root, rounded up.
+#[inline(always)]
+fn root_above(a: i128) -> i128
+    requires sign { pos 0 ≤ℤ a }
+    requires size { unsigned_abs a < 2 ^ 126 }
+    ensures { IsRootAbove result a }
+{
+    isqrt_ceil(a as u128) as i128
+}
+
+#[cfg(test)]
+mod tests {
+    use super::*;
+
+    // roots by Python's decimals
+    #[test]
+    fn ends_of_roots(rt: HostRuntime) {
+        let rows = [
+            ("0", root(between(0, 0)), (0, 0)),
+            ("up to 1", root(between(0, 1)), (0, 1)),
+            ("no square", root(between(8, 8)), (2, 3)),
+            ("a square", root(between(9, 9)), (3, 3)),
+            ("over squares", root(between(2, 10)), (1, 4)),
+            (
+                "of the size of a squared distance",
+                root(between(1 << 124, 1 << 125)),
+                (4_611_686_018_427_387_904, 6_521_908_912_666_391_107),
+            ),
+        ];
+        for (name, got, want) in rows {
+            assert_eq!(rt; (got.lo, got.hi), want, "{name}");
+        }
+    }
+}
