@@ -1,0 +1,6 @@
+pub mod Records
+pub mod Fields
+pub mod Again
+pub mod Marks
+pub mod Used
+mod KnownValues

@@ -1,0 +1,6 @@
+pub mod Numbers
+pub mod Rules
+pub mod Table
+pub mod Points
+pub mod Parts
+pub mod Reader

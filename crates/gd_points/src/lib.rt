@@ -1,0 +1,13 @@
+//! The points of a part, and the file that they are read from.
+#![tactic(auto)]
+
+mod number;
+mod read;
+mod rule;
+mod table;
+#[cfg(test)]
+mod tests;
+
+pub use read::read_points;
+pub use rule::Rule;
+pub use table::{PointTable, Row};
