@@ -1,0 +1,9 @@
+pub mod Directions
+pub mod Sizes
+pub mod Spreads
+pub mod AllCells
+pub mod Accepts
+pub mod FourWords
+pub mod Says
+pub mod Accepted
+pub mod KnownValues

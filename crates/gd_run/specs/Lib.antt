@@ -1,0 +1,10 @@
+pub mod Flatness
+pub mod Directions
+pub mod Verdict
+pub mod Centres
+pub mod Words
+pub mod Texts
+pub mod Answer
+pub mod Endings
+pub mod Commands
+pub mod Lines

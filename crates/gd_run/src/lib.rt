@@ -1,0 +1,14 @@
+//! The top call of gdteval: words and files to one text and a status.
+#![tactic(auto)]
+
+mod command;
+mod direction;
+mod flatness;
+mod levels;
+mod program;
+#[cfg(test)]
+mod tests;
+mod texts;
+mod words;
+
+pub use program::run;
