@@ -1,0 +1,90 @@
+// The program: it repeats one call of the arithmetic over drawn numbers, and prints a checksum of the answers.
+#![tactic(auto)]
+
+mod directions;
+mod draws;
+mod rows;
+
+use directions::{Direction, Point, WideDirection};
+use draws::{Drawn, draw_all};
+use rows::{Factors, Fraction, Radicand, Row, Sides, Square};
+use std::process::ExitCode;
+use std::time::Instant;
+use std::{env, io};
+
+const WRONG_WORDS: &str = "gd_bench: KERNEL TURNS [time]";
+/// How many calls a turn has.
+const CALLS: u32 = 256;
+/// How many points one call of a direction takes.
+const POINTS: u32 = 4_096;
+
+/// A checksum of some turns, and their nanoseconds.
+#[derive(Clone, Copy)]
+struct Measured {
+    sum: i128,
+    nanoseconds: u128,
+}
+
+/// One turn, from a checksum to the next. It isn't inlined, so that no drawn number becomes a constant of its code.
+#[inline(never)]
+fn summed<T: Row>(rows: &[T], points: &[Point], start: i128) -> i128 {
+    let mut sum = start;
+    for row in rows {
+        let (lo, hi) = row.answer(points);
+        sum = (sum ^ lo).wrapping_add(hi);
+    }
+    sum
+}
+
+fn measure<T: Row + Drawn + Drop>(rt: &HostRuntime, turns: u32) -> io::Result<Measured> {
+    let rows: Vec<T> = draw_all(rt.alloc(), CALLS)?;
+    let points = draw_all(rt.alloc(), POINTS)?;
+    let start = Instant::now(rt)?;
+    let mut sum = 0;
+    for _ in 0..turns {
+        sum = summed(&rows, &points, sum);
+    }
+    let nanoseconds = start.elapsed(rt)?.as_nanos();
+    Ok(Measured { sum, nanoseconds })
+}
+
+/// The kernel of a name, or `None` where none has it.
+fn named(rt: &HostRuntime, name: &str, turns: u32) -> io::Result<Option<Measured>> {
+    Ok(Some(match name {
+        "mul" => measure::<Factors>(rt, turns)?,
+        "quot" => measure::<Fraction>(rt, turns)?,
+        "root" => measure::<Square>(rt, turns)?,
+        "isqrt" => measure::<Radicand>(rt, turns)?,
+        "cmp_root" => measure::<Sides>(rt, turns)?,
+        "dot_128" => measure::<WideDirection>(rt, turns)?,
+        "dot_64" => measure::<Direction>(rt, turns)?,
+        _ => return Ok(None),
+    }))
+}
+
+/// Does what the words ask for, and tells whether they are right.
+fn run(rt: &HostRuntime) -> io::Result<bool> {
+    let mut words = env::args(rt)?.skip(1);
+    let (Some(name), Some(turns)) = (words.next(), words.next()) else {
+        return Ok(false);
+    };
+    let Ok(turns) = turns.parse() else {
+        return Ok(false);
+    };
+    let Some(it) = named(rt, &name, turns)? else {
+        return Ok(false);
+    };
+    match words.next() {
+        None => println!(rt; "{}", it.sum)?,
+        Some(_) => println!(rt; "{} {}", it.sum, it.nanoseconds)?,
+    }
+    Ok(true)
+}
+
+fn main(rt: HostRuntime) -> io::Result<ExitCode> {
+    if run(&rt)? {
+        return Ok(ExitCode::SUCCESS);
+    }
+    eprintln!(rt; "{WRONG_WORDS}")?;
+    Ok(ExitCode::from(4))
+}
