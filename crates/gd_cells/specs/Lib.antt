@@ -1,0 +1,4 @@
+pub mod Grid
+pub mod Halves
+pub mod Laws
+pub mod Meaning
