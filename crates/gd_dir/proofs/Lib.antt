@@ -1,0 +1,4 @@
+pub mod Enclosure
+pub mod Halves
+mod KnownValues
+pub mod Ratios

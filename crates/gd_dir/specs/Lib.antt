@@ -1,0 +1,4 @@
+pub mod Boxes
+pub mod Covers
+pub mod Directions
+pub mod Faces
