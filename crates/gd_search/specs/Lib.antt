@@ -1,0 +1,7 @@
+pub mod Lines
+pub mod Outcomes
+pub mod Rows
+pub mod Stops
+pub mod Toys
+pub mod Trees
+pub mod Verdict

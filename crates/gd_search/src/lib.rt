@@ -1,0 +1,13 @@
+//! The search of a task by levels of cells.
+#![tactic(auto)]
+
+mod judge;
+mod outcome;
+mod row;
+#[cfg(test)]
+mod tests;
+mod tree;
+
+pub use judge::search;
+pub use outcome::{Node, Outcome};
+pub use tree::leaves;
