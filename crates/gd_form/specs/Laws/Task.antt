@@ -1,0 +1,117 @@
+-- The laws of flatness as a task.
+use Rattle.std.proofs.Common.{arith, ◌≡◌, refl, sym, subst, ℕ, zero, suc, ◌+◌, ◌^◌, ◌<◌, ◌≤◌, pos, Bool, true, false, cond, ◌==◌, ◌&&◌, nat_le, List, length, drop, replicate, unsigned_abs}
+use Rattle.std.proofs.lemmas.Bool.{false≢true}
+use Rattle.std.proofs.lemmas.Bool.Decides.{nat_tests}
+use Rattle.std.proofs.lemmas.Int.{ints}
+use Rattle.std.specs.Cmp.Lexicographic.{pointwise}
+use Rattle.std.specs.Ordering.{int_eq}
+use Rattle.gd_cells.specs.Grid.{halvings}
+use Rattle.gd_cells.specs.Laws.{CentreInRange, FirstRefutes, HalvesCover, HoldsIsFeasible, IsGrid, NoneRefutes, RefutedIsEmpty, RootsCover}
+use Rattle.gd_cells.specs.Meaning.{IsCell}
+use Rattle.gd_cells.specs.declared.cell.Cell.{Cell}
+use Rattle.gd_cells.specs.declared.cell.Witness.{Witness}
+use Rattle.gd_dir.proofs.Enclosure.{box_encloses}
+use Rattle.gd_dir.proofs.Halves.{faces_cover, grid_has_face_cells, halves_cover}
+use Rattle.gd_dir.proofs.Ratios.{on_face}
+use Rattle.gd_dir.specs.Boxes.{box_of}
+use Rattle.gd_dir.specs.Directions.{entry}
+use Rattle.gd_dir.specs.Faces.{IsFaceCell, in_turn, index_at, middle}
+use Rattle.gd_form.specs.Laws.Accepts.{leads, within_is_flat}
+use Rattle.gd_form.specs.Laws.Evidences.{first_refutes, none_refutes}
+use Rattle.gd_form.specs.Laws.Refutations.{refuted_is_empty}
+use Rattle.gd_form.specs.FlatTask.{IsFeasible, IsInside, assignment_of, axis_of, direction_at, is_in_range, questions_of, ratio_at, vector_of}
+use Rattle.gd_points.specs.declared.table.Row.{Row}
+
+-- ---- the grid
+no_more : (steps : ℕ → ℕ) (coordinate l : ℕ) → halvings steps coordinate l ≤ l
+no_more steps coordinate zero = omega arith
+no_more steps coordinate (suc l) =
+    let before = no_more steps coordinate l in
+    elim (steps l == coordinate) as (λ v. cond v (halvings steps coordinate l + 1) (halvings steps coordinate l) ≤ suc l) [ true ↦ omega (arith, before) | false ↦ omega (arith, before) ]
+
+pub flat_grid : (rows : List Row) (tolerance : ℕ) → IsGrid (questions_of rows tolerance)
+flat_grid rows tolerance = record {
+  some_roots = omega arith;
+  few_roots = omega arith;
+  some_dims = omega arith;
+  few_dims = omega arith;
+  few_numbers = omega arith;
+  few_levels = omega arith;
+  coordinates = λ l h. omega arith;
+  few_halvings = λ coordinate. no_more in_turn coordinate 60;
+}
+
+pub face_of : (rows : List Row) (tolerance : ℕ) (c : Cell) → IsCell (questions_of rows tolerance) c → IsFaceCell c
+face_of rows tolerance c cell = subst IsFaceCell (sym cell.same) (grid_has_face_cells cell.root cell.level cell.path cell.first_root cell.last_root cell.deepest cell.inside)
+
+-- ---- the cells cover
+pub flat_roots_cover : (rows : List Row) (tolerance : ℕ) → RootsCover (questions_of rows tolerance) (IsFeasible rows tolerance) IsInside
+flat_roots_cover rows tolerance a feasible = record {
+  root = axis_of a;
+  first = feasible.first;
+  last = feasible.last;
+  lies_inside = faces_cover (axis_of a) (vector_of a) feasible.first feasible.last feasible.leads;
+}
+
+pub flat_halves_cover : (rows : List Row) (tolerance : ℕ) → HalvesCover (questions_of rows tolerance) IsInside
+flat_halves_cover rows tolerance a root level path one last above inside lies = halves_cover root level path (axis_of a) (vector_of a) above lies
+
+-- ---- evidence
+pub flat_first_refutes : (rows : List Row) (tolerance : ℕ) → 0 < length rows → FirstRefutes (questions_of rows tolerance)
+flat_first_refutes rows tolerance some c e cell first = first_refutes rows tolerance (box_of c) e some first
+
+pub flat_none_refutes : (rows : List Row) (tolerance : ℕ) → NoneRefutes (questions_of rows tolerance)
+flat_none_refutes rows tolerance c e cell none = none_refutes rows tolerance (box_of c) e none
+
+pub flat_refuted_is_empty : (rows : List Row) (tolerance : ℕ) → RefutedIsEmpty (questions_of rows tolerance) (IsFeasible rows tolerance) IsInside
+flat_refuted_is_empty rows tolerance c e a cell refuted lies feasible =
+    refuted_is_empty rows tolerance (box_of c) e (entry (axis_of a) (vector_of a)) (vector_of a) refuted feasible.leads.positive
+    (box_encloses c (face_of rows tolerance c cell) (axis_of a) (vector_of a) feasible.leads lies) feasible.zone
+
+-- ---- witnesses
+pub record InRange (w : Witness) : Type 0 where
+  pub first_root : 1 ≤ w.root
+  pub last_root : w.root ≤ 3
+  pub first : unsigned_abs (ratio_at 0 w) ≤ 2 ^ 30
+  pub second : unsigned_abs (ratio_at 1 w) ≤ 2 ^ 30
+  pub rest : pointwise int_eq (drop 2 w.at) (replicate 10 (pos 0)) ≡ true
+
+le_true : (a b : ℕ) → a ≤ b → nat_le a b ≡ true
+le_true a b h = grind (arith, nat_tests)
+
+true_le : (a b : ℕ) → nat_le a b ≡ true → a ≤ b
+true_le a b h = grind (arith, nat_tests)
+
+in_range_from : (w : Witness) → InRange w → is_in_range w ≡ true
+in_range_from w r = rw (le_true 1 w.root r.first_root, le_true w.root 3 r.last_root, le_true (unsigned_abs (ratio_at 0 w)) (2 ^ 30) r.first, le_true (unsigned_abs (ratio_at 1 w)) (2 ^ 30) r.second) r.rest
+
+five : (p q r s t : Bool) → p && (q && (r && (s && t))) ≡ true → (p ≡ true) × (q ≡ true) × (r ≡ true) × (s ≡ true) × (t ≡ true)
+five true true true true true h = (refl, refl, refl, refl, refl)
+five false q r s t h = absurd (false≢true h)
+five true false r s t h = absurd (false≢true h)
+five true true false s t h = absurd (false≢true h)
+five true true true false t h = absurd (false≢true h)
+five true true true true false h = absurd (false≢true h)
+
+pub in_range_gives : (w : Witness) → is_in_range w ≡ true → InRange w
+in_range_gives w h =
+    let f = five (nat_le 1 w.root) (nat_le w.root 3) (nat_le (unsigned_abs (ratio_at 0 w)) (2 ^ 30)) (nat_le (unsigned_abs (ratio_at 1 w)) (2 ^ 30)) (pointwise int_eq (drop 2 w.at) (replicate 10 (pos 0))) h in
+    record { first_root = true_le 1 w.root f.0; last_root = true_le w.root 3 f.1; first = true_le _ (2 ^ 30) f.2; second = true_le _ (2 ^ 30) f.3; rest = f.4 }
+
+middle_size : (ratio : ℕ) (c : Cell) → index_at ratio c < 2 ^ halvings in_turn ratio c.level → unsigned_abs (middle ratio c) ≤ 2 ^ 30
+middle_size ratio c h = let inside = on_face (index_at ratio c) (halvings in_turn ratio c.level) h in omega (arith, ints, inside)
+
+pub flat_centre_in_range : (rows : List Row) (tolerance : ℕ) → CentreInRange (questions_of rows tolerance)
+flat_centre_in_range rows tolerance c cell =
+    let f = face_of rows tolerance c cell in
+    in_range_from ((questions_of rows tolerance).centre c) (record { first_root = f.first_root; last_root = f.last_root; first = middle_size 0 c f.first; second = middle_size 1 c f.second; rest = refl })
+
+pub flat_holds_is_feasible : (rows : List Row) (tolerance : ℕ) → HoldsIsFeasible (questions_of rows tolerance) (IsFeasible rows tolerance) (λ w. assignment_of w.root (direction_at w))
+flat_holds_is_feasible rows tolerance w in_range holds =
+    let r = in_range_gives w in_range in
+    record {
+      first = r.first_root;
+      last = r.last_root;
+      leads = leads w.root (ratio_at 0 w) (ratio_at 1 w) r.first r.second r.first_root r.last_root;
+      zone = within_is_flat rows tolerance (direction_at w) holds;
+    }

@@ -1,0 +1,4 @@
+pub mod FlatTask
+pub mod FlatTests
+pub mod Flatness
+pub mod Laws
