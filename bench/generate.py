@@ -4,13 +4,16 @@
 The same words give the same bytes on each machine. Coordinates are in units of 0.1 micrometre.
 
     saddle  z = x * y / 100,000 over a square of 1,000 by 1,000: flat to 10, and to nothing less than about 5
+    corners four corners of that square by turns, the last of them at height 10
     tilt    near the plane 3x = 10z, off by at most 5
     noise   anywhere in a cube of half side 1,000,000
     cube    on the surface of that cube, its eight corners first
+    sphere  on a sphere of radius 1,000,000, rounded towards its middle: as wide along each direction as along another
     equal   one place
     late    one place, but for the last point: no centre holds at tolerance 0, and only the last point tells
     make    x and y within 1,000,000, z from 0 to 100
 """
+import math
 import sys
 
 
@@ -34,6 +37,11 @@ def saddle(draws, at, n):
     return x, y, x * y // 100_000
 
 
+def corners(draws, at, n):
+    x, y = at % 2, at // 2 % 2
+    return 1_000 * x, 1_000 * y, 10 * x * y
+
+
 def tilt(draws, at, n):
     x, y = 10 * draws.within(100_000), draws.within(1_000_000)
     return x, y, 3 * x // 10 + draws.within(5)
@@ -52,6 +60,12 @@ def cube(draws, at, n):
     return tuple(point)
 
 
+def sphere(draws, at, n):
+    point = noise(draws, at, n)
+    length = math.isqrt(sum(it * it for it in point)) or 1
+    return tuple(int(math.copysign(1_000_000 * abs(it) // length, it)) for it in point)
+
+
 def equal(draws, at, n):
     return 123, -456, 789
 
@@ -64,7 +78,7 @@ def make(draws, at, n):
     return draws.within(1_000_000), draws.within(1_000_000), draws.next() % 101
 
 
-PARTS = {it.__name__: it for it in (saddle, tilt, noise, cube, equal, late, make)}
+PARTS = {it.__name__: it for it in (saddle, corners, tilt, noise, cube, sphere, equal, late, make)}
 
 
 def text_of(part, seed, n):

@@ -1,4 +1,4 @@
-//! The first run of gdteval in plain Rust, with the standard library alone: the same words, texts and statuses.
+//! `gdteval flat` in plain Rust, with the standard library alone: the same words, texts and statuses.
 //! It is written for a fair comparison of time and as a second opinion on each answer. Nothing of it is proved.
 
 mod flat;

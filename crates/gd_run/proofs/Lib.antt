@@ -1,9 +1,4 @@
-pub mod Directions
-pub mod Sizes
-pub mod Spreads
-pub mod AllCells
-pub mod Accepts
+pub mod Accepted
 pub mod FourWords
 pub mod Says
-pub mod Accepted
-pub mod KnownValues
+pub mod Tables

@@ -1,10 +1,6 @@
-pub mod Flatness
-pub mod Directions
-pub mod Verdict
-pub mod Centres
 pub mod Words
+pub mod Commands
 pub mod Texts
 pub mod Answer
-pub mod Endings
-pub mod Commands
 pub mod Lines
+pub mod Outcomes

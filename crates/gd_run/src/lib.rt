@@ -2,9 +2,6 @@
 #![tactic(auto)]
 
 mod command;
-mod direction;
-mod flatness;
-mod levels;
 mod program;
 #[cfg(test)]
 mod tests;

@@ -1,9 +1,9 @@
 // The one call that the program makes.
-ghost use Rattle.std.specs.Prelude.{ℕ, ◌≡◌, ◌≢◌, ◌++◌, ◌≤◌, List, true, false, IfOk, IsOkAnd, IsSomeAnd, map, take};
+ghost use Rattle.std.specs.Prelude.{ℕ, ◌≡◌, ◌≢◌, ◌++◌, ◌≤◌, List, true, false, IfOk, IsOkAnd, IsSomeAnd, length, map, take, ◌<◌};
 ghost use Rattle.std.specs.String.{string_bytes};
 ghost use Rattle.gd_base.specs.Causes.{Rose};
 ghost use Rattle.gd_points.specs.Points.{points};
-ghost use Rattle.gd_run.specs.Answer.{EndsInAccept, EndsInFront, EndsInPut, EndsSaid, EndsUnread, EndsWithAnswer, FailsToLoad, IsSaidOfBytes, IsSaidOfTable};
+ghost use Rattle.gd_run.specs.Answer.{EndsInAccept, EndsInFront, EndsInPut, EndsInReject, EndsSaid, EndsUnread, EndsWithAnswer, FailsToLoad, IsSaidOfBytes, IsSaidOfTable};
 ghost use Rattle.gd_run.specs.Commands.{flat_of};
 ghost use Rattle.gd_run.specs.Lines.{said_in};
 ghost use Rattle.gd_run.specs.Texts.{cannot_read_text, wrong_words_text};
@@ -11,26 +11,45 @@ ghost use Rattle.gd_run.specs.Words.{IsNoCommand};
 ghost use Rattle.gd_world.specs.Shelf.{IsWord, SameFiles};
 
 use crate::command::FlatCommand;
-use crate::levels::judge_centres;
 use crate::texts::{
-    Line, cannot_read_line, ending_line, input_line, too_long_line, wrong_words_line,
+    Line, cannot_read_line, input_line, outcome_line, too_long_line, wrong_words_line,
 };
 use crate::words::command_of;
-use gd_base::{ReadFault, Status};
-use gd_points::read_points;
+use gd_base::{Memory, ReadFault, Status};
+use gd_form::flat_task;
+use gd_points::{PointTable, read_points};
+use gd_search::search;
 use gd_world::{LoadFault, PutFault, Shelf, Sink};
 use std::alloc::{AllocError, Global};
 use std::thread::Threads;
 
+// What is said of the points of a file.
+fn judge_table<R: Threads + Sync>(
+    rt: &R,
+    alloc: Global,
+    flat: &FlatCommand<'_>,
+    table: &PointTable,
+) -> Result<Line, AllocError>
+    requires { 0 < length table.now.rows }
+    ensures { IfOk result (λ line. IsSaidOfTable (flat_of flat.now) (Ok table.now) (said_in line)) }
+{
+    match search(rt, alloc, &flat_task(table, flat.tolerance), flat.budget) {
+        Ok(outcome) => outcome_line(alloc, &outcome),
+        Err(Memory) => Err(AllocError),
+    }
+}
+
 // What is said of the bytes of a points file.
-fn judge_flat(alloc: Global, flat: &FlatCommand<'_>, bytes: &[u8]) -> Result<Line, AllocError>
+fn judge_flat<R: Threads + Sync>(
+    rt: &R,
+    alloc: Global,
+    flat: &FlatCommand<'_>,
+    bytes: &[u8],
+) -> Result<Line, AllocError>
     ensures { IfOk result (λ line. IsSaidOfTable (flat_of flat.now) (points bytes.now) (said_in line)) }
 {
     match read_points(alloc, bytes) {
-        Ok(table) => {
-            let ending = judge_centres(table.rows().as_slice(), flat.tolerance, flat.budget);
-            ending_line(alloc, ending)
-        }
+        Ok(table) => judge_table(rt, alloc, flat, &table),
         Err(ReadFault::Input(fault)) => input_line(alloc, flat.points, fault),
         Err(ReadFault::Memory) => Err(AllocError),
     }
@@ -57,7 +76,8 @@ fn say<O: Sink>(alloc: Global, out: &mut O, line: Result<Line, AllocError>) -> S
 }
 
 // Does the command `flat`.
-fn run_flat<S: Shelf, O: Sink>(
+fn run_flat<R: Threads + Sync, S: Shelf, O: Sink>(
+    rt: &R,
     alloc: Global,
     flat: &FlatCommand<'_>,
     shelf: &mut S,
@@ -77,7 +97,7 @@ fn run_flat<S: Shelf, O: Sink>(
 {
     let mut bytes = Vec::new(alloc);
     match shelf.load(alloc, flat.points, &mut bytes) {
-        Ok(()) => say(alloc, out, judge_flat(alloc, flat, bytes.as_slice())),
+        Ok(()) => say(alloc, out, judge_flat(rt, alloc, flat, bytes.as_slice())),
         Err(LoadFault::Failed) => say(alloc, out, cannot_read_line(alloc, flat.points)),
         Err(LoadFault::TooLong) => say(alloc, out, too_long_line(alloc, flat.points)),
         Err(LoadFault::Memory) => Status(7),
@@ -88,7 +108,7 @@ fn run_flat<S: Shelf, O: Sink>(
 ///
 /// The words are those after the program's name. `docs/FORMATS.md` lists the commands, the texts and the statuses.
 pub fn run<R: Threads + Sync, S: Shelf, O: Sink>(
-    _rt: &R,
+    rt: &R,
     alloc: Global,
     words: &Vec<String>,
     shelf: &mut S,
@@ -101,6 +121,10 @@ pub fn run<R: Threads + Sync, S: Shelf, O: Sink>(
     // A printed accept has its direction, across which all points lie in a zone as wide as the tolerance.
     ensures accept { S.tells ≡ true → O.tells ≡ true → result.0 ≡ 0
         → EndsInAccept (map string_bytes words.now.items) (S.holds shelf.old) (O.written out.old) (O.written out.new) }
+
+    // A printed reject means that all points lie in a zone as wide as the tolerance across no direction.
+    ensures reject { S.tells ≡ true → O.tells ≡ true → result.0 ≡ 1
+        → EndsInReject (map string_bytes words.now.items) (S.holds shelf.old) (O.written out.old) (O.written out.new) }
 
     // Status 4 comes exactly where the words are of no command and the put was done.
     ensures four { result.0 ≡ 4 → IsNoCommand (map string_bytes words.now.items) }
@@ -123,6 +147,6 @@ pub fn run<R: Threads + Sync, S: Shelf, O: Sink>(
 {
     match command_of(words.as_slice()) {
         None => say(alloc, out, wrong_words_line(alloc)),
-        Some(flat) => run_flat(alloc, &flat, shelf, out),
+        Some(flat) => run_flat(rt, alloc, &flat, shelf, out),
     }
 }

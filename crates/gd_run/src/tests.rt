@@ -24,8 +24,9 @@ fn runs_over_memory(rt: HostRuntime) -> Result<(), Fail> {
             0,
             0,
             2,
-            "open budget level 1 undecided 6 spent 3\n",
+            "open budget level 2 undecided 3 spent 3\n",
         ),
+        ("flat p.csv 4 10000", 0, 0, 1, "reject leaves 62\n"),
         (
             "flat q.csv 10 1000",
             0,

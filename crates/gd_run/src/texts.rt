@@ -1,15 +1,17 @@
 // The one line that a run prints, and the status that goes with it.
-ghost use Rattle.std.specs.Prelude.{◌≡◌, ◌++◌, ◌≤◌, IfOk, codes};
+ghost use Rattle.std.specs.Prelude.{◌≡◌, true, IfOk};
 ghost use Rattle.std.specs.String.{string_bytes};
 ghost use Rattle.gd_run.specs.Answer.{refusal, said_of, too_long};
-ghost use Rattle.gd_run.specs.Endings.{IsInside, end_of};
+ghost use Rattle.gd_form.specs.FlatTask.{direction_at, is_in_range};
 ghost use Rattle.gd_run.specs.Lines.{said_in};
-ghost use Rattle.gd_run.specs.Texts.{accept_text, cannot_read_text, counts_text, direction_text, input_text, open_text, place_text, wrong_words_text};
-ghost use Rattle.gd_base.specs.declared.verdict.Reason.TheVariants as reason;
+ghost use Rattle.gd_run.specs.Outcomes.{IsPrintable};
+ghost use Rattle.gd_run.specs.Texts.{accept_text, cannot_read_text, counts_text, direction_text, input_text, open_text, place_text, reason_text, reject_text, wrong_words_text};
+ghost use Rattle.gd_search.specs.Outcomes.{end_of};
 
-use crate::direction::centre_at;
-use crate::levels::Ending;
-use gd_base::InputFault;
+use gd_base::{InputFault, Reason};
+use gd_cells::Witness;
+use gd_dir::direction;
+use gd_search::{Outcome, leaves};
 use gd_vec::V3;
 use std::alloc::{AllocError, Global};
 
@@ -86,30 +88,65 @@ fn counts_words(alloc: Global, undecided: u32, spent: u32) -> Result<String, All
     format!(in alloc; " undecided {undecided} spent {spent}\n")
 }
 
-fn open_words(alloc: Global, level: u32, undecided: u32, spent: u32) -> Result<String, AllocError>
-    ensures { IfOk result (λ text. string_bytes text ≡ open_text reason.Budget level undecided spent) }
+fn reject_words(alloc: Global, leaves: usize) -> Result<String, AllocError>
+    ensures { IfOk result (λ text. string_bytes text ≡ reject_text leaves) }
 {
+    format!(in alloc; "reject leaves {leaves}\n")
+}
+
+fn reason_word(reason: Reason) -> &'static str
+    ensures { result.now ≡ reason_text reason }
+{
+    match reason {
+        Reason::Budget => "budget",
+        Reason::Floor => "floor",
+    }
+}
+
+fn open_words(
+    alloc: Global,
+    reason: Reason,
+    level: u32,
+    undecided: u32,
+    spent: u32,
+) -> Result<String, AllocError>
+    ensures { IfOk result (λ text. string_bytes text ≡ open_text reason level undecided spent) }
+{
+    let reason = reason_word(reason);
     let counts = counts_words(alloc, undecided, spent)?;
-    format!(in alloc; "open budget level {level}{counts}")
+    format!(in alloc; "open {reason} level {level}{counts}")
+}
+
+// The direction of a witness of flatness, in 2^-30.
+fn direction_at(witness: &Witness) -> V3
+    requires { is_in_range witness.now ≡ true }
+    ensures { result ≡ direction_at witness.now }
+{
+    direction(witness.root, witness.at[0], witness.at[1])
 }
 
 /// How the search ended.
-pub fn ending_line(alloc: Global, ending: Ending) -> Result<Line, AllocError>
-    requires { IsInside ending }
-    ensures { IfOk result (λ line. said_in line ≡ said_of (end_of ending)) }
+pub fn outcome_line(alloc: Global, outcome: &Outcome) -> Result<Line, AllocError>
+    requires { IsPrintable outcome.now }
+    ensures { IfOk result (λ line. said_in line ≡ said_of (end_of outcome.now)) }
 {
-    match ending {
-        Ending::Accept { level, place } => {
-            let direction = centre_at(place.root, level, place.path);
-            let text = accept_words(alloc, level, &direction)?;
+    match outcome {
+        Outcome::Accept { witness, level } => {
+            let text = accept_words(alloc, *level, &direction_at(witness))?;
             Ok(Line { text, status: 0 })
         }
-        Ending::Open {
+        Outcome::Reject { tree } => {
+            let text = reject_words(alloc, leaves(tree))?;
+            Ok(Line { text, status: 1 })
+        }
+        Outcome::StillOpen {
             level,
             undecided,
             spent,
+            reason,
+            ..
         } => {
-            let text = open_words(alloc, level, undecided, spent)?;
+            let text = open_words(alloc, *reason, *level, *undecided, *spent)?;
             Ok(Line { text, status: 2 })
         }
     }

@@ -1,6 +1,6 @@
 use Rattle.std.proofs.Common.{arith, ◌≡◌, refl, inl, map, List, ℕ}
 use Rattle.std.specs.String.{string_bytes}
-use Rattle.gd_run.proofs.Accepted.{ends_in_accept}
+use Rattle.gd_run.proofs.Accepted.{ends_in_accept, ends_in_reject}
 use Rattle.gd_run.proofs.Says.{ends_said, part_of}
 use Rattle.gd_run.specs.Answer.{Said}
 use Rattle.gd_run.specs.Commands.{flat_of}
@@ -31,3 +31,9 @@ returns-in-Some-clause-accept g c = λ s o zero.
     let words : List (List ℕ) = map string_bytes c.args.words.now.items in
     let command : IsFlatCommand words (flat_of c.in-Some.flat) = rw c.as_slice.ensures.value at c.in-Some.ensures in
     ends_in_accept words (g.S.Shelf.holds c.args.shelf.now) (flat_of c.in-Some.flat) (g.O.Sink.written c.args.out.now) (g.O.Sink.written c.run_flat.new.out) c.run_flat.result.0 command (c.run_flat.ensures.answer s o (λ e. absurd (omega arith)) (λ e. absurd (omega arith)) (λ e. absurd (omega arith))) zero
+
+pub returns-in-Some-clause-reject : goal.returns-in-Some-clause-reject
+returns-in-Some-clause-reject g c = λ s o one.
+    let words : List (List ℕ) = map string_bytes c.args.words.now.items in
+    let command : IsFlatCommand words (flat_of c.in-Some.flat) = rw c.as_slice.ensures.value at c.in-Some.ensures in
+    ends_in_reject words (g.S.Shelf.holds c.args.shelf.now) (flat_of c.in-Some.flat) (g.O.Sink.written c.args.out.now) (g.O.Sink.written c.run_flat.new.out) c.run_flat.result.0 command (c.run_flat.ensures.answer s o (λ e. absurd (omega arith)) (λ e. absurd (omega arith)) (λ e. absurd (omega arith))) one
