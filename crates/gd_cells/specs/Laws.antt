@@ -1,7 +1,8 @@
 -- The laws of a task: what its grid and its tests mean for the assignments that it judges.
 -- An assignment is a list of whole numbers, which each task lays out for itself. A task names which assignments are
 -- feasible, and which lie inside a cell.
-use Rattle.std.specs.Prelude.{ℕ, suc, ◌+◌, ◌*◌, ◌^◌, ◌≤◌, ◌<◌, ◌≡◌, true, false, Some, None, List, ℤ, ◌⊎◌}
+use Rattle.std.specs.Prelude.{ℕ, suc, ◌+◌, ◌*◌, ◌-◌, ◌^◌, ◌≤◌, ◌<◌, ◌≡◌, true, false, Some, None, List, ℤ, pos, ◌⊎◌, drop, replicate, unsigned_abs}
+use Rattle.std.specs.List.{All}
 use Rattle.gd_cells.specs.Grid.{halvings}
 use Rattle.gd_cells.specs.Meaning.{IsCell, Questions, cell_of}
 use Rattle.gd_cells.specs.declared.cell.Cell.{Cell}
@@ -43,6 +44,15 @@ FirstRefutes q = (c : Cell) (e : Evidence) → IsCell q c → q.first c ≡ Some
 abbrev pub NoneRefutes : Questions → Type 0
 NoneRefutes q = (c : Cell) (e : Evidence) → IsCell q c → q.first c ≡ None → q.refuted c e ≡ false
 
+-- the numbers of a first evidence are below 2^32
+pub record IsShort (e : Evidence) : Type 0 where
+  pub condition : e.condition < 2 ^ 32
+  pub a : e.a < 2 ^ 32
+  pub b : e.b < 2 ^ 32
+
+abbrev pub FirstIsShort : Questions → Type 0
+FirstIsShort q = (c : Cell) (e : Evidence) → IsCell q c → q.first c ≡ Some e → IsShort e
+
 -- no feasible assignment lies inside a refuted cell
 abbrev pub RefutedIsEmpty : Questions → (List ℤ → Type 0) → (List ℤ → Cell → Type 0) → Type 0
 RefutedIsEmpty q feasible inside = (c : Cell) (e : Evidence) (a : List ℤ) → IsCell q c → q.refuted c e ≡ true → inside a c → feasible a → ⊥
@@ -54,3 +64,14 @@ CentreInRange q = (c : Cell) → IsCell q c → q.in_range (q.centre c) ≡ true
 -- the assignment of a witness in range that holds is feasible
 abbrev pub HoldsIsFeasible : Questions → (List ℤ → Type 0) → (Witness → List ℤ) → Type 0
 HoldsIsFeasible q feasible assignment = (w : Witness) → q.in_range w ≡ true → q.holds w ≡ true → feasible (assignment w)
+
+-- the witness names a root, its numbers are below 2^62 in size, and those that the task doesn't have are 0
+pub record NamesPlace (q : Questions) (w : Witness) : Type 0 where
+  pub first : 1 ≤ w.root
+  pub last : w.root ≤ q.roots
+  pub sizes : All (λ x. unsigned_abs x < 2 ^ 62) w.at
+  pub behind : drop q.numbers w.at ≡ replicate (12 - q.numbers) (pos 0)
+
+-- the centre of a cell is such a witness
+abbrev pub CentreNamesPlace : Questions → Type 0
+CentreNamesPlace q = (c : Cell) → IsCell q c → NamesPlace q (q.centre c)

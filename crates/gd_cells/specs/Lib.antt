@@ -2,3 +2,4 @@ pub mod Grid
 pub mod Halves
 pub mod Laws
 pub mod Meaning
+pub mod Nodes

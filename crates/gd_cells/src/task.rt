@@ -1,7 +1,7 @@
 // What a search and a checker ask of a task, and the laws that its answers keep.
 ghost use Rattle.std.specs.Prelude.{◌≡◌, ◌<◌, true, Option, Bool, List, ℤ};
 ghost use Rattle.gd_cells.specs.Halves.{halves};
-ghost use Rattle.gd_cells.specs.Laws.{CentreInRange, FirstRefutes, HalvesCover, HoldsIsFeasible, IsGrid, NoneRefutes, RefutedIsEmpty, RootsCover};
+ghost use Rattle.gd_cells.specs.Laws.{CentreInRange, CentreNamesPlace, FirstIsShort, FirstRefutes, HalvesCover, HoldsIsFeasible, IsGrid, NoneRefutes, RefutedIsEmpty, RootsCover};
 ghost use Rattle.gd_cells.specs.Meaning.{IsCell, Questions};
 ghost use Rattle.gd_cells.specs.declared.cell.Cell.{Cell};
 ghost use Rattle.gd_cells.specs.declared.cell.Witness.{Witness};
@@ -75,9 +75,13 @@ pub trait Task: Sync {
 
     ghost none_refutes: { (t : Self) → NoneRefutes (questions t) };
 
+    ghost first_is_short: { (t : Self) → FirstIsShort (questions t) };
+
     ghost refuted_is_empty: { (t : Self) → RefutedIsEmpty (questions t) (feasible t) (inside t) };
 
     ghost centre_in_range: { (t : Self) → CentreInRange (questions t) };
 
     ghost holds_is_feasible: { (t : Self) → HoldsIsFeasible (questions t) (feasible t) (assignment t) };
+
+    ghost centre_names_place: { (t : Self) → CentreNamesPlace (questions t) };
 }

@@ -3,7 +3,7 @@ ghost use Rattle.std.specs.Prelude.{◌≡◌, ◌<◌, ◌≤◌, ◌^◌, drop
 ghost use Rattle.std.specs.Cmp.Lexicographic.{pointwise};
 ghost use Rattle.std.specs.List.{All};
 ghost use Rattle.std.specs.Ordering.{int_eq};
-ghost use Rattle.gd_form.specs.Laws.Task.{flat_centre_in_range, flat_first_refutes, flat_grid, flat_halves_cover, flat_holds_is_feasible, flat_none_refutes, flat_refuted_is_empty, flat_roots_cover};
+ghost use Rattle.gd_form.specs.Laws.Task.{flat_centre_in_range, flat_centre_names_place, flat_first_is_short, flat_first_refutes, flat_grid, flat_halves_cover, flat_holds_is_feasible, flat_none_refutes, flat_refuted_is_empty, flat_roots_cover};
 ghost use Rattle.gd_form.specs.FlatTask.{IsFeasible, IsInside, assignment_of, direction_at, questions_of};
 ghost use Rattle.gd_vec.specs.Vector.{IsWithin};
 
@@ -117,11 +117,15 @@ impl<'a> Task for FormTask<'a> {
 
     ghost none_refutes = { λ t. flat_none_refutes t.rows.now.items t.tolerance };
 
+    ghost first_is_short = { λ t. flat_first_is_short t.rows.now.items t.tolerance t.some t.few };
+
     ghost refuted_is_empty = { λ t. flat_refuted_is_empty t.rows.now.items t.tolerance };
 
     ghost centre_in_range = { λ t. flat_centre_in_range t.rows.now.items t.tolerance };
 
     ghost holds_is_feasible = { λ t. flat_holds_is_feasible t.rows.now.items t.tolerance };
+
+    ghost centre_names_place = { λ t. flat_centre_names_place t.rows.now.items t.tolerance };
 }
 
 // Whether a ratio in 2^-30 lies between -1 and 1.

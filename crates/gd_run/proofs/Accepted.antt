@@ -16,7 +16,7 @@ use Rattle.gd_run.specs.Answer.{EndsInAccept, EndsInReject, EndsSaid, HasTable, 
 use Rattle.gd_run.specs.Words.{Flat, IsFlatCommand}
 use Rattle.gd_search.proofs.Meant.{accepts, rejects}
 use Rattle.gd_search.specs.Verdict.{End, Accepted, Rejected, Open, IsVerdict}
-use Rattle.gd_search.specs.declared.outcome.Node.{Node}
+use Rattle.gd_cells.specs.declared.node.Node.{Node}
 use Rattle.gd_vec.specs.declared.vector.V3.{V3}
 use Rattle.gd_world.specs.Shelf.{Files}
 

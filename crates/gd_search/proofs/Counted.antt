@@ -6,12 +6,13 @@ use Rattle.std.specs.List.{flat_map}
 use Rattle.gd_cells.specs.Grid.{count_from}
 use Rattle.gd_cells.specs.Laws.{IsGrid}
 use Rattle.gd_cells.specs.Meaning.{Questions, cell_of}
+use Rattle.gd_cells.specs.Nodes.{is_refuted}
 use Rattle.gd_cells.specs.declared.cell.Cell.{Cell}
 use Rattle.gd_search.proofs.Forest.{candidates_by_roots, cells_below}
 use Rattle.gd_search.proofs.Levels.{is_left, undecided_counted}
-use Rattle.gd_search.specs.Trees.{is_refuted, last_line, leaves_of, tree, tree_below, with_halves}
+use Rattle.gd_search.specs.Trees.{last_line, leaves_of, tree, tree_below, with_halves}
 use Rattle.gd_search.specs.Verdict.{spent, undecided}
-use Rattle.gd_search.specs.declared.outcome.Node.{Node}
+use Rattle.gd_cells.specs.declared.node.Node.{Node}
 
 -- ---- sums of the first so many numbers of a row
 abbrev pub total : (ℕ → ℕ) → ℕ → ℕ

@@ -12,8 +12,8 @@ use Rattle.gd_cells.specs.declared.cell.Cell.{Cell}
 use Rattle.gd_search.proofs.Levels.{candidates, halves_left, is_left}
 use Rattle.gd_search.specs.Lines.{Found, Written, written, written_roots}
 use Rattle.gd_search.specs.Trees.{last_line, tree, tree_below, with_halves}
-use Rattle.gd_search.specs.declared.outcome.Node.{Node}
-use Rattle.gd_search.specs.declared.outcome.Node.TheVariants.{Refuted}
+use Rattle.gd_cells.specs.declared.node.Node.{Node}
+use Rattle.gd_cells.specs.declared.node.Node.TheVariants.{Refuted}
 
 -- no items
 abbrev pub no_items : (X : Type 0) → List X

@@ -4,7 +4,7 @@ use Rattle.gd_cells.specs.Grid.{cell_at}
 use Rattle.gd_search.specs.Toys.{toy}
 use Rattle.gd_search.specs.Trees.{tree}
 use Rattle.gd_search.specs.Verdict.{cells, undecided}
-use Rattle.gd_search.specs.declared.outcome.Node.TheVariants.{Left, Refuted, Split}
+use Rattle.gd_cells.specs.declared.node.Node.TheVariants.{Left, Refuted, Split}
 
 cells_of_level : cells 2 1 ≡ (1, 0) ∷ (1, 1) ∷ (2, 0) ∷ (2, 1) ∷ []
 unfolding cells

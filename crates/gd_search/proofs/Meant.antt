@@ -7,14 +7,14 @@ use Rattle.std.proofs.lemmas.List.Elements.{All-filter, All-map, filter-append}
 use Rattle.std.specs.List.{All, flat_map}
 use Rattle.gd_base.specs.declared.verdict.Reason.TheVariants as reason
 use Rattle.gd_cells.specs.Grid.{count_from}
-use Rattle.gd_cells.specs.Laws.{CentreInRange, FirstRefutes, HalvesCover, HasRoot, HoldsIsFeasible, IsGrid, RefutedIsEmpty, RootsCover}
+use Rattle.gd_cells.specs.Laws.{CentreInRange, CentreNamesPlace, FirstRefutes, HalvesCover, HasRoot, HoldsIsFeasible, IsGrid, NamesPlace, RefutedIsEmpty, RootsCover}
 use Rattle.gd_cells.specs.Meaning.{IsCell, Questions, cell_of}
 use Rattle.gd_cells.specs.declared.cell.Cell.{Cell}
 use Rattle.gd_cells.specs.declared.cell.Witness.{Witness}
 use Rattle.gd_search.proofs.Levels.{candidates, candidates_at, centres_are, found_kept, found_passes, is_left}
 use Rattle.gd_search.specs.Outcomes.{AcceptsRightly, IsShown, RejectsRightly, end_of}
 use Rattle.gd_search.specs.Verdict.{Accepted, Rejected, Open, IsVerdict, cells, centres, end_at, end_with, is_undecided, undecided}
-use Rattle.gd_search.specs.declared.outcome.Node.{Node}
+use Rattle.gd_cells.specs.declared.node.Node.{Node}
 use Rattle.gd_search.specs.declared.outcome.Outcome.{Outcome}
 use Rattle.gd_search.specs.declared.outcome.Outcome.TheVariants.{Accept, Reject, StillOpen}
 
@@ -42,18 +42,18 @@ accepted_is None lines l u s roots finest budget w level e =
       ]
     ] e
 
-pub accepts : (q : Questions) (feasible : List ℤ → Type 0) (assignment : Witness → List ℤ) → IsGrid q → CentreInRange q → HoldsIsFeasible q feasible assignment → (budget : ℕ) (w : Witness) (level : ℕ) → IsVerdict q budget (Accepted w level) → IsShown q feasible assignment w
+pub accepts : (q : Questions) (feasible : List ℤ → Type 0) (assignment : Witness → List ℤ) → IsGrid q → CentreInRange q → CentreNamesPlace q → HoldsIsFeasible q feasible assignment → (budget : ℕ) (w : Witness) (level : ℕ) → IsVerdict q budget (Accepted w level) → IsShown q feasible assignment w
 unfolding end_at
-accepts q feasible assignment grid central shows budget w level verdict =
+accepts q feasible assignment grid central places shows budget w level verdict =
     let low : verdict.0 ≤ q.finest = low_level q budget verdict.0 verdict.1 in
     let h : find q.holds (centres q verdict.0) ≡ Some w = accepted_is (find q.holds (centres q verdict.0)) _ _ _ _ _ _ _ w level verdict.2 in
     let f : find q.holds (map q.centre (filter (is_left q) (candidates q verdict.0))) ≡ Some w = ap (find q.holds) (sym (centres_are q grid verdict.0 low)) ∙ h in
-    let all : All (λ w. q.in_range w ≡ true) (map q.centre (filter (is_left q) (candidates q verdict.0))) =
-    All-map (λ w. q.in_range w ≡ true) q.centre (filter (is_left q) (candidates q verdict.0))
-    (All-filter (is_left q) (λ c. q.in_range (q.centre c) ≡ true) (candidates q verdict.0) (λ k d n. central _ (candidates_at q grid verdict.0 low k d n).0)) in
-    let ranges : q.in_range w ≡ true = found_kept (λ w. q.in_range w ≡ true) q.holds w _ all f in
+    let of_centres : (P : Witness → Type 0) → ((c : Cell) → IsCell q c → P (q.centre c)) → P w = λ P each.
+    found_kept P q.holds w _
+    (All-map P q.centre (filter (is_left q) (candidates q verdict.0)) (All-filter (is_left q) (λ c. P (q.centre c)) (candidates q verdict.0) (λ k d n. each _ (candidates_at q grid verdict.0 low k d n).0))) f in
+    let ranges : q.in_range w ≡ true = of_centres (λ v. q.in_range v ≡ true) central in
     let meets : q.holds w ≡ true = found_passes q.holds w _ f in
-    record { ranges = ranges; meets = meets; shown = shows w ranges meets }
+    record { ranges = ranges; meets = meets; place = of_centres (NamesPlace q) places; shown = shows w ranges meets }
 
 -- ---- a feasible assignment stays inside an undecided cell
 record Stays (q : Questions) (inside : List ℤ → Cell → Type 0) (a : List ℤ) (l : ℕ) : Type 0 where
@@ -158,10 +158,10 @@ rejects q feasible inside roots halves refutes empty budget leaves tree verdict 
     root_left_out (λ c. is_undecided q c.0 verdict.0 c.1) (2 ^ verdict.0) 1 q.roots s.root s.path none s.first (omega (arith, s.last)) s.within s.still
 
 -- ---- an outcome that tells the verdict
-pub accepts_rightly : (q : Questions) (feasible : List ℤ → Type 0) (assignment : Witness → List ℤ) → IsGrid q → CentreInRange q → HoldsIsFeasible q feasible assignment → (budget : ℕ) (o : Outcome) → IsVerdict q budget (end_of o) → AcceptsRightly q feasible assignment o
-accepts_rightly q feasible assignment grid central shows budget (Accept witness level) verdict = accepts q feasible assignment grid central shows budget witness level verdict
-accepts_rightly q feasible assignment grid central shows budget (Reject tree) verdict = tt
-accepts_rightly q feasible assignment grid central shows budget (StillOpen tree level undecided spent why) verdict = tt
+pub accepts_rightly : (q : Questions) (feasible : List ℤ → Type 0) (assignment : Witness → List ℤ) → IsGrid q → CentreInRange q → CentreNamesPlace q → HoldsIsFeasible q feasible assignment → (budget : ℕ) (o : Outcome) → IsVerdict q budget (end_of o) → AcceptsRightly q feasible assignment o
+accepts_rightly q feasible assignment grid central places shows budget (Accept witness level) verdict = accepts q feasible assignment grid central places shows budget witness level verdict
+accepts_rightly q feasible assignment grid central places shows budget (Reject tree) verdict = tt
+accepts_rightly q feasible assignment grid central places shows budget (StillOpen tree level undecided spent why) verdict = tt
 
 pub rejects_rightly : (q : Questions) (feasible : List ℤ → Type 0) (inside : List ℤ → Cell → Type 0) → RootsCover q feasible inside → HalvesCover q inside → FirstRefutes q → RefutedIsEmpty q feasible inside → (budget : ℕ) (o : Outcome) → IsVerdict q budget (end_of o) → RejectsRightly feasible o
 rejects_rightly q feasible inside roots halves refutes empty budget (Accept witness level) verdict = tt

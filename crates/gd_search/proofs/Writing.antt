@@ -1,9 +1,9 @@
 -- How the lists of the levels are written, line by line.
 use Rattle.std.proofs.Common.{arith, ◌≡◌, refl, sym, ap, ℕ, zero, suc, ◌+◌, ◌-◌, ◌<◌, ◌≤◌, drop, append_assoc, append-nil, None, List, [], ◌∷◌, ◌++◌}
 use Rattle.gd_search.specs.Lines.{Found, left_of, written, written_roots}
-use Rattle.gd_search.specs.declared.outcome.Node.{Node}
+use Rattle.gd_cells.specs.declared.node.Node.{Node}
 use Rattle.gd_search.specs.declared.tree.Level.{Level}
-use Rattle.gd_search.specs.declared.outcome.Node.TheVariants.{Split}
+use Rattle.gd_cells.specs.declared.node.Node.TheVariants.{Split}
 
 pub written-split : (n : ℕ) (found : List Found) (lists : List (List Found)) → 0 < n → written (suc n) ((None ∷ found) ∷ lists)
     ≡ record { lines = Split ∷ ((written n lists).lines ++ (written n (written n lists).rest).lines); rest = found ∷ (written n (written n lists).rest).rest }

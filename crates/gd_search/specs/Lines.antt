@@ -2,8 +2,8 @@
 use Rattle.std.specs.Prelude.{ℕ, zero, suc, Option, Some, None, List, [], ◌∷◌, ◌++◌, map, drop}
 use Rattle.gd_cells.specs.declared.cell.Evidence.{Evidence}
 use Rattle.gd_search.specs.Trees.{last_line}
-use Rattle.gd_search.specs.declared.outcome.Node.{Node}
-use Rattle.gd_search.specs.declared.outcome.Node.TheVariants.{Split, Refuted}
+use Rattle.gd_cells.specs.declared.node.Node.{Node}
+use Rattle.gd_cells.specs.declared.node.Node.TheVariants.{Split, Refuted}
 use Rattle.gd_search.specs.declared.tree.Level.{Level}
 
 abbrev pub Found : Type 0

@@ -1,5 +1,6 @@
 -- What an outcome says of the verdict, and of the assignments.
 use Rattle.std.specs.Prelude.{◌≡◌, true, List, ℤ}
+use Rattle.gd_cells.specs.Laws.{NamesPlace}
 use Rattle.gd_cells.specs.Meaning.{Questions}
 use Rattle.gd_cells.specs.declared.cell.Witness.{Witness}
 use Rattle.gd_search.specs.Trees.{leaves_of}
@@ -23,6 +24,7 @@ RejectsRightly feasible (StillOpen tree level undecided spent why) = Unit {0}
 pub record IsShown (q : Questions) (feasible : List ℤ → Type 0) (assignment : Witness → List ℤ) (w : Witness) : Type 0 where
   pub ranges : q.in_range w ≡ true
   pub meets : q.holds w ≡ true
+  pub place : NamesPlace q w
   pub shown : feasible (assignment w)
 
 -- where an outcome accepts, its witness shows a feasible assignment

@@ -1,7 +1,7 @@
 -- How a search ends that stops at a place.
 use Rattle.std.specs.Prelude.{ℕ, ◌+◌, List}
 use Rattle.gd_search.specs.Verdict.{End, Accepted, Rejected, Open}
-use Rattle.gd_search.specs.declared.outcome.Node.{Node}
+use Rattle.gd_cells.specs.declared.node.Node.{Node}
 use Rattle.gd_search.specs.declared.judge.Place.{Place}
 use Rattle.gd_search.specs.declared.judge.Stop.{Stop}
 use Rattle.gd_search.specs.declared.judge.Stop.TheVariants as stop

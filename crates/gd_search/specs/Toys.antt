@@ -1,8 +1,11 @@
 -- The two tasks of the tests. Both have two roots and one coordinate.
-use Rattle.std.proofs.Common.{arith, ◌≡◌, ◌≤◌, ◌+◌, refl, ℕ, zero, suc, Bool, true, false, ◌&&◌, ◌||◌, ◌==◌, if◌then◌else◌, cond, Some, None, nat_le, nat_eq, int_le, ℤ, pos, List, replicate, slice_set, slice_index_or, inl}
+use Rattle.std.proofs.Common.{arith, ◌≡◌, ◌≤◌, ◌+◌, refl, subst, ◌^◌, ◌<◌, unsigned_abs, ℕ, zero, suc, Bool, true, false, ◌&&◌, ◌||◌, ◌==◌, if◌then◌else◌, cond, Some, None, nat_le, nat_eq, int_le, ℤ, pos, List, replicate, slice_set, slice_index_or, inl}
+use Rattle.std.proofs.lemmas.List.Elements.{All-cons, All-replicate}
+use Rattle.std.specs.List.{All}
+use Rattle.gd_cells.specs.Grid.{cell_at}
 use Rattle.gd_cells.specs.Grid.{halvings}
-use Rattle.gd_cells.specs.Laws.{FirstRefutes, HalvesCover, HoldsIsFeasible, IsGrid, NoneRefutes, RefutedIsEmpty, RootsCover}
-use Rattle.gd_cells.specs.Meaning.{Questions}
+use Rattle.gd_cells.specs.Laws.{CentreNamesPlace, FirstIsShort, FirstRefutes, HalvesCover, HoldsIsFeasible, IsGrid, IsShort, NoneRefutes, RefutedIsEmpty, RootsCover}
+use Rattle.gd_cells.specs.Meaning.{IsCell, Questions}
 use Rattle.gd_cells.specs.declared.cell.Cell.{Cell}
 use Rattle.gd_cells.specs.declared.cell.Evidence.{Evidence}
 use Rattle.gd_cells.specs.declared.cell.Witness.{Witness}
@@ -87,6 +90,40 @@ toy-first true depth least c e cell h = cc
 toy-first false depth least c e cell h =
     elim (ends depth c) as (λ v. cond v (Some (evidence_of c)) None ≡ Some e → v ≡ true) [ true ↦ λ f. refl | false ↦ λ f. cc ] h
 
+short_evidence : (c : Cell) → c.root ≤ 2 → IsShort (evidence_of c)
+short_evidence c few = record { condition = omega arith; a = omega arith; b = omega arith }
+
+few_roots_of : (q : Questions) (c : Cell) → q.roots ≤ 2 → IsCell q c → c.root ≤ 2
+unfolding cell_at
+few_roots_of q c few cell = rw cell.same (omega (arith, cell.last_root))
+
+pub toy-short : (shows : Bool) (depth : ℕ) (least : ℤ) → FirstIsShort (toy shows depth least)
+toy-short true depth least c e cell h = cc
+toy-short false depth least c e cell h =
+    let s : IsShort (evidence_of c) = short_evidence c (few_roots_of (toy false depth least) c (omega arith) cell) in
+    elim (ends depth c) as (λ v. cond v (Some (evidence_of c)) None ≡ Some e → IsShort e) [ true ↦ λ f. let same : evidence_of c ≡ e = cc in subst IsShort same s | false ↦ λ f. cc ] h
+
+few_levels_of : (q : Questions) (c : Cell) → q.finest ≤ 3 → IsCell q c → c.level ≤ 3
+unfolding cell_at
+few_levels_of q c few cell = rw cell.same (omega (arith, cell.deepest))
+
+first_root_of : (q : Questions) (c : Cell) → IsCell q c → 1 ≤ c.root
+unfolding cell_at
+first_root_of q c cell = rw cell.same cell.first_root
+
+last_root_of : (q : Questions) (c : Cell) → IsCell q c → c.root ≤ q.roots
+unfolding cell_at
+last_root_of q c cell = rw cell.same cell.last_root
+
+abbrev is_small : ℤ → Type 0
+is_small x = unsigned_abs x < 2 ^ 62
+
+sizes_of : (c : Cell) → c.level ≤ 3 → All is_small (witness_of c).at
+sizes_of c few = All-cons is_small (pos c.level) (replicate 11 (pos 0)) (omega arith) (All-replicate is_small 11 (pos 0) (omega arith))
+
+pub toy-places : (shows : Bool) (depth : ℕ) (least : ℤ) → CentreNamesPlace (toy shows depth least)
+toy-places shows depth least c cell = record { first = first_root_of (toy shows depth least) c cell; last = last_root_of (toy shows depth least) c cell; sizes = sizes_of c (few_levels_of (toy shows depth least) c (omega arith) cell); behind = refl }
+
 pub toy-none : (shows : Bool) (depth : ℕ) (least : ℤ) → NoneRefutes (toy shows depth least)
 toy-none true depth least c e cell h = refl
 toy-none false depth least c e cell h =
@@ -99,6 +136,13 @@ toy-empty false depth least c e a cell is lies can = cc
 pub toy-shown : (shows : Bool) (depth : ℕ) (least : ℤ) → HoldsIsFeasible (toy shows depth least) (feasible_of shows) (λ w. w.at)
 toy-shown true depth least w ranges meets = refl
 toy-shown false depth least w ranges meets = cc
+
+pub meeting-short : FirstIsShort meeting
+meeting-short c e cell h =
+    let same : evidence_of c ≡ e = cc in subst IsShort same (short_evidence c (few_roots_of meeting c (omega arith) cell))
+
+pub meeting-places : CentreNamesPlace meeting
+meeting-places c cell = record { first = first_root_of meeting c cell; last = last_root_of meeting c cell; sizes = sizes_of c (few_levels_of meeting c (omega arith) cell); behind = refl }
 
 pub meeting-grid : IsGrid meeting
 meeting-grid = record {

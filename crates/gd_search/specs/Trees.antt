@@ -1,11 +1,12 @@
 -- The tree of a search down to a level: the lines of its cells in preorder.
-use Rattle.std.specs.Prelude.{ℕ, zero, suc, ◌+◌, ◌*◌, Option, Some, None, List, [], ◌∷◌, ◌++◌, Bool, true, false, filter, length}
+use Rattle.std.specs.Prelude.{ℕ, zero, suc, ◌+◌, ◌*◌, Option, Some, None, List, [], ◌∷◌, ◌++◌, filter, length}
 use Rattle.std.specs.List.{flat_map}
 use Rattle.gd_cells.specs.Grid.{count_from}
 use Rattle.gd_cells.specs.Meaning.{Questions, cell_of}
+use Rattle.gd_cells.specs.Nodes.{is_refuted}
 use Rattle.gd_cells.specs.declared.cell.Evidence.{Evidence}
-use Rattle.gd_search.specs.declared.outcome.Node.{Node}
-use Rattle.gd_search.specs.declared.outcome.Node.TheVariants.{Split, Refuted, Left}
+use Rattle.gd_cells.specs.declared.node.Node.{Node}
+use Rattle.gd_cells.specs.declared.node.Node.TheVariants.{Split, Refuted, Left}
 
 -- the line of a cell at the last level: refuted, or left undecided
 abbrev pub last_line : Option Evidence → Node
@@ -26,12 +27,6 @@ tree_below q (suc depth) r l p =
 -- the tree down to a level: all roots, in order
 unfoldable pub tree : Questions → ℕ → List Node
 tree q level = flat_map (λ r. tree_below q level r 0 0) (count_from 1 q.roots)
-
--- a line of a refuted cell
-abbrev pub is_refuted : Node → Bool
-is_refuted Split = false
-is_refuted (Refuted e) = true
-is_refuted Left = false
 
 -- how many cells of a tree are refuted
 abbrev pub leaves_of : List Node → ℕ

@@ -7,7 +7,7 @@ use Rattle.gd_cells.specs.Grid.{count_from}
 use Rattle.gd_cells.specs.Meaning.{Questions, cell_of}
 use Rattle.gd_cells.specs.declared.cell.Witness.{Witness}
 use Rattle.gd_search.specs.Trees.{tree}
-use Rattle.gd_search.specs.declared.outcome.Node.{Node}
+use Rattle.gd_cells.specs.declared.node.Node.{Node}
 
 -- how a search ends
 pub data End : Type 0 where

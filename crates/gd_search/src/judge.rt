@@ -7,15 +7,15 @@ ghost use Rattle.gd_search.specs.Outcomes.{AcceptsRightly, RejectsRightly, end_o
 ghost use Rattle.gd_search.specs.Stops.{end_of_stop};
 ghost use Rattle.gd_search.specs.Trees.{leaves_of};
 ghost use Rattle.gd_search.specs.Verdict.{IsVerdict, end_with};
-ghost use Rattle.gd_search.specs.declared.outcome.Node.{Node};
+ghost use Rattle.gd_cells.specs.declared.node.Node.{Node};
 
 use crate::outcome::Outcome;
 use crate::row::{Row, bound_level, count_undecided, first_holding, half_rows, root_rows};
 use crate::tree::{Level, keep_level, write_tree};
 use gd_base::{Memory, Reason};
 use gd_cells::{
-    Task, Witness, show_centre_in_range, show_first_refutes, show_grid, show_halves_cover,
-    show_holds_is_feasible, show_refuted_is_empty, show_roots_cover,
+    Task, Witness, show_centre_in_range, show_centre_names_place, show_first_refutes, show_grid,
+    show_halves_cover, show_holds_is_feasible, show_refuted_is_empty, show_roots_cover,
 };
 use std::alloc::Global;
 use std::thread::Threads;
@@ -160,6 +160,7 @@ pub fn search<R: Threads + Sync, T: Task>(
     show_first_refutes(task);
     show_refuted_is_empty(task);
     show_centre_in_range(task);
+    show_centre_names_place(task);
     show_holds_is_feasible(task);
     let outcome = search_levels(rt, alloc, task, budget)?;
     Ok(outcome)

@@ -9,5 +9,5 @@ mod tests;
 mod tree;
 
 pub use judge::search;
-pub use outcome::{Node, Outcome};
+pub use outcome::Outcome;
 pub use tree::leaves;

@@ -1,33 +1,10 @@
 // How a search ends.
-ghost use Rattle.std.specs.Prelude.{◌≡◌};
-ghost use Rattle.gd_search.specs.Trees.{is_refuted};
-
 use gd_base::Reason;
-use gd_cells::{Evidence, Witness};
-
-/// A line of a tree in preorder.
-#[derive(Clone, Copy, Debug, PartialEq, Eq)]
-pub enum Node {
-    /// The cell was halved: the lines of its lower half follow, then those of its upper half.
-    Split,
-    /// This evidence is the first that refutes the cell.
-    Refuted(Evidence),
-    /// The cell is undecided at the last level of the search.
-    Left,
-}
-
-impl Node {
-    /// Whether it is the line of a refuted cell.
-    pub fn is_refuted(&self) -> bool
-        ensures { result ≡ is_refuted self.now }
-    {
-        matches!(self, Node::Refuted(_))
-    }
-}
+use gd_cells::{Node, Witness};
 
 /// How a search ends. Levels count how often cells were halved, from 0 on.
 ///
-/// A tree has the lines of all roots, in order.
+/// A tree has the lines of all roots, in order. The evidence of a refuted cell is the first that refutes it.
 #[derive(Debug, Drop)]
 pub enum Outcome {
     /// At this level the centre of a cell is the first that holds.

@@ -3,9 +3,9 @@ ghost use Rattle.std.specs.Prelude.{◌≡◌, ◌<◌, refl, true, cond};
 ghost use Rattle.gd_search.specs.Toys.{evidence_of, feasible_of, inside_all, meeting, never, toy, witness_of, ends};
 ghost use Rattle.gd_search.specs.Toys as toys;
 
-use crate::{Node, Outcome, leaves, search};
+use crate::{Outcome, leaves, search};
 use gd_base::Reason;
-use gd_cells::{Cell, Evidence, Task, Witness, split_cell};
+use gd_cells::{Cell, Evidence, Node, Task, Witness, split_cell};
 use std::alloc::{AllocError, Global};
 use std::sync::atomic::{AtomicBool, Ordering};
 use std::test::Fail;
@@ -110,11 +110,15 @@ impl Task for Toy {
 
     ghost none_refutes = { λ t. toys.toy-none t.shows t.depth t.least };
 
+    ghost first_is_short = { λ t. toys.toy-short t.shows t.depth t.least };
+
     ghost refuted_is_empty = { λ t. toys.toy-empty t.shows t.depth t.least };
 
     ghost centre_in_range = { λ t c cell. refl };
 
     ghost holds_is_feasible = { λ t. toys.toy-shown t.shows t.depth t.least };
+
+    ghost centre_names_place = { λ t. toys.toy-places t.shows t.depth t.least };
 }
 
 // Each root sets its flag, and looks whether the other's is set while it is bounded.
@@ -191,11 +195,15 @@ impl Task for Meeting {
 
     ghost none_refutes = { λ t. toys.meeting-none };
 
+    ghost first_is_short = { λ t. toys.meeting-short };
+
     ghost refuted_is_empty = { λ t c e a cell is lies can. absurd can };
 
     ghost centre_in_range = { λ t c cell. refl };
 
     ghost holds_is_feasible = { λ t. toys.meeting-shown };
+
+    ghost centre_names_place = { λ t. toys.meeting-places };
 }
 
 // A letter a line: `s`, `r` or `o`.

@@ -3,10 +3,9 @@ ghost use Rattle.std.specs.Prelude.{◌≡◌, ◌+◌, ◌++◌, OnOk, length, 
 ghost use Rattle.gd_search.specs.Lines.{left_of, written, written_roots};
 ghost use Rattle.gd_search.specs.Trees.{leaves_of};
 
-use crate::outcome::Node;
 use crate::row::Row;
 use gd_base::Memory;
-use gd_cells::Evidence;
+use gd_cells::{Evidence, Node};
 use std::alloc::{AllocError, Global};
 
 /// What was found in the cells of a level, in order, and how many of these are written.

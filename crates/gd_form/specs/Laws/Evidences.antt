@@ -1,10 +1,11 @@
 -- The first evidence refutes, and where there is none, nothing refutes.
-use Rattle.std.proofs.Common.{arith, ◌≡◌, refl, sym, ap, ◌∙◌, subst, ℕ, ◌+◌, ◌-◌, ◌<◌, ◌≤◌, ℤ, pos, ◌-ℤ◌, Bool, true, false, cond, ◌&&◌, nat_eq, nat_le, Some, None, List, length, get_or, Ordering, Less, Equal, Greater}
+use Rattle.std.proofs.Common.{arith, ◌≡◌, refl, sym, ap, ◌∙◌, subst, ℕ, ◌+◌, ◌-◌, ◌^◌, ◌<◌, ◌≤◌, ℤ, pos, ◌-ℤ◌, Bool, true, false, cond, ◌&&◌, nat_eq, nat_le, Some, None, List, length, get_or, Ordering, Less, Equal, Greater}
 use Rattle.std.proofs.lemmas.Bool.{false≢true}
 use Rattle.std.proofs.lemmas.Bool.Decides.{nat_tests}
 use Rattle.std.proofs.lemmas.Int.{ints}
 use Rattle.std.proofs.lemmas.List.{length-map}
 use Rattle.std.specs.Ordering.{is_gt, is_le}
+use Rattle.gd_cells.specs.Laws.{IsShort}
 use Rattle.gd_cells.specs.declared.cell.Evidence.{Evidence}
 use Rattle.gd_dir.specs.declared.shape.DirBox.{DirBox}
 use Rattle.gd_form.specs.Laws.Firsts.{above_least, below_greatest, greatest_at_place, greatest_inside, least_at_place, least_inside}
@@ -134,3 +135,14 @@ none_refutes rows tolerance b e h =
     let none = first_none (parts rows tolerance b (farthest b rows) (nearest b rows)) (evidence_of (farthest b rows) (nearest b rows)) h in
     none_of_four (nat_eq e.condition 1) (is_point rows e.a) (is_point rows e.b) (parts rows tolerance b (e.a - 1) (e.b - 1))
     (λ p q. no_others_part rows tolerance b (e.a - 1) (e.b - 1) (point_inside rows e.a p) (point_inside rows e.b q) none)
+
+-- ---- the numbers of the first evidence are below 2^32
+pub first_is_short : (rows : List Row) (tolerance : ℕ) (b : DirBox) (e : Evidence) → 0 < length rows → length rows ≤ 200000 → first_evidence rows tolerance b ≡ Some e → IsShort e
+first_is_short rows tolerance b e some few =
+    let far : farthest b rows < length rows = rw length-map at (greatest_inside (lows b rows) (rw length-map some)) in
+    let near : nearest b rows < length rows = rw length-map at (least_inside (highs b rows) (rw length-map some)) in
+    let s : IsShort (evidence_of (farthest b rows) (nearest b rows)) = record { condition = omega arith; a = omega arith; b = omega arith } in
+    elim (parts rows tolerance b (farthest b rows) (nearest b rows)) as (λ v. cond v (Some (evidence_of (farthest b rows) (nearest b rows))) None ≡ Some e → IsShort e) [
+      | true ↦ λ h. let same : evidence_of (farthest b rows) (nearest b rows) ≡ e = cc in subst IsShort same s
+      | false ↦ λ h. cc
+    ]

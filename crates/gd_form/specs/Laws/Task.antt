@@ -1,12 +1,13 @@
 -- The laws of flatness as a task.
-use Rattle.std.proofs.Common.{arith, ◌≡◌, refl, sym, subst, ℕ, zero, suc, ◌+◌, ◌^◌, ◌<◌, ◌≤◌, pos, Bool, true, false, cond, ◌==◌, ◌&&◌, nat_le, List, length, drop, replicate, unsigned_abs}
+use Rattle.std.proofs.Common.{arith, ◌≡◌, refl, sym, subst, ℕ, zero, suc, ◌+◌, ◌^◌, ◌<◌, ◌≤◌, pos, Bool, true, false, cond, ◌==◌, ◌&&◌, nat_le, ℤ, List, ◌∷◌, length, drop, replicate, unsigned_abs}
+use Rattle.std.proofs.lemmas.List.Elements.{All-cons, All-replicate}
 use Rattle.std.proofs.lemmas.Bool.{false≢true}
 use Rattle.std.proofs.lemmas.Bool.Decides.{nat_tests}
 use Rattle.std.proofs.lemmas.Int.{ints}
 use Rattle.std.specs.Cmp.Lexicographic.{pointwise}
 use Rattle.std.specs.Ordering.{int_eq}
 use Rattle.gd_cells.specs.Grid.{halvings}
-use Rattle.gd_cells.specs.Laws.{CentreInRange, FirstRefutes, HalvesCover, HoldsIsFeasible, IsGrid, NoneRefutes, RefutedIsEmpty, RootsCover}
+use Rattle.gd_cells.specs.Laws.{CentreInRange, CentreNamesPlace, FirstIsShort, FirstRefutes, HalvesCover, HoldsIsFeasible, IsGrid, NoneRefutes, RefutedIsEmpty, RootsCover}
 use Rattle.gd_cells.specs.Meaning.{IsCell}
 use Rattle.gd_cells.specs.declared.cell.Cell.{Cell}
 use Rattle.gd_cells.specs.declared.cell.Witness.{Witness}
@@ -17,7 +18,7 @@ use Rattle.gd_dir.specs.Boxes.{box_of}
 use Rattle.gd_dir.specs.Directions.{entry}
 use Rattle.gd_dir.specs.Faces.{IsFaceCell, in_turn, index_at, middle}
 use Rattle.gd_form.specs.Laws.Accepts.{leads, within_is_flat}
-use Rattle.gd_form.specs.Laws.Evidences.{first_refutes, none_refutes}
+use Rattle.gd_form.specs.Laws.Evidences.{first_is_short, first_refutes, none_refutes}
 use Rattle.gd_form.specs.Laws.Refutations.{refuted_is_empty}
 use Rattle.gd_form.specs.FlatTask.{IsFeasible, IsInside, assignment_of, axis_of, direction_at, is_in_range, questions_of, ratio_at, vector_of}
 use Rattle.gd_points.specs.declared.table.Row.{Row}
@@ -63,6 +64,9 @@ flat_first_refutes rows tolerance some c e cell first = first_refutes rows toler
 pub flat_none_refutes : (rows : List Row) (tolerance : ℕ) → NoneRefutes (questions_of rows tolerance)
 flat_none_refutes rows tolerance c e cell none = none_refutes rows tolerance (box_of c) e none
 
+pub flat_first_is_short : (rows : List Row) (tolerance : ℕ) → 0 < length rows → length rows ≤ 200000 → FirstIsShort (questions_of rows tolerance)
+flat_first_is_short rows tolerance some few c e cell first = first_is_short rows tolerance (box_of c) e some few first
+
 pub flat_refuted_is_empty : (rows : List Row) (tolerance : ℕ) → RefutedIsEmpty (questions_of rows tolerance) (IsFeasible rows tolerance) IsInside
 flat_refuted_is_empty rows tolerance c e a cell refuted lies feasible =
     refuted_is_empty rows tolerance (box_of c) e (entry (axis_of a) (vector_of a)) (vector_of a) refuted feasible.leads.positive
@@ -105,6 +109,21 @@ pub flat_centre_in_range : (rows : List Row) (tolerance : ℕ) → CentreInRange
 flat_centre_in_range rows tolerance c cell =
     let f = face_of rows tolerance c cell in
     in_range_from ((questions_of rows tolerance).centre c) (record { first_root = f.first_root; last_root = f.last_root; first = middle_size 0 c f.first; second = middle_size 1 c f.second; rest = refl })
+
+abbrev is_small : ℤ → Type 0
+is_small x = unsigned_abs x < 2 ^ 62
+
+pub flat_centre_names_place : (rows : List Row) (tolerance : ℕ) → CentreNamesPlace (questions_of rows tolerance)
+flat_centre_names_place rows tolerance c cell =
+    let f = face_of rows tolerance c cell in
+    let first : unsigned_abs (middle 0 c) ≤ 2 ^ 30 = middle_size 0 c f.first in
+    let second : unsigned_abs (middle 1 c) ≤ 2 ^ 30 = middle_size 1 c f.second in
+    record {
+      first = f.first_root;
+      last = f.last_root;
+      sizes = All-cons is_small (middle 0 c) (middle 1 c ∷ replicate 10 (pos 0)) (omega (arith, first)) (All-cons is_small (middle 1 c) (replicate 10 (pos 0)) (omega (arith, second)) (All-replicate is_small 10 (pos 0) (omega arith)));
+      behind = refl;
+    }
 
 pub flat_holds_is_feasible : (rows : List Row) (tolerance : ℕ) → HoldsIsFeasible (questions_of rows tolerance) (IsFeasible rows tolerance) (λ w. assignment_of w.root (direction_at w))
 flat_holds_is_feasible rows tolerance w in_range holds =

@@ -10,5 +10,5 @@ returns-clause-reject g c =
 pub returns-clause-accept : goal.returns-clause-accept
 returns-clause-accept g c =
     accepts_rightly (g.T.Task.questions c.args.task.now) (g.T.Task.feasible c.args.task.now) (g.T.Task.assignment c.args.task.now)
-    c.show_grid.ensures c.show_centre_in_range.ensures c.show_holds_is_feasible.ensures
+    c.show_grid.ensures c.show_centre_in_range.ensures c.show_centre_names_place.ensures c.show_holds_is_feasible.ensures
     c.args.budget c.in_ok-outcome.outcome c.in_ok-outcome.ensures

@@ -12,7 +12,7 @@ use Rattle.gd_search.specs.Outcomes.{end_of}
 use Rattle.gd_search.specs.Rows.{fresh, is_open, judged, rows_below}
 use Rattle.gd_search.specs.Stops.{end_of_stop}
 use Rattle.gd_search.specs.Verdict.{IsVerdict, end_at, end_with}
-use Rattle.gd_search.specs.declared.outcome.Node.{Node}
+use Rattle.gd_cells.specs.declared.node.Node.{Node}
 use Rattle.gd_search.specs.declared.row.Row.{Row}
 use Rattle.gd_search.specs.declared.judge.Place.{Place}
 use Rattle.gd_search.proofs.judge.search_levels.Goals as goal

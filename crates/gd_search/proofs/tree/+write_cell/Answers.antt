@@ -1,6 +1,6 @@
 use Rattle.std.proofs.Common.{rules, arith, refl, sym, ap, ◌≡◌, append-nil, length, drop, suc, ◌<◌, Some, None}
 use Rattle.gd_search.specs.Lines.{left_of}
-use Rattle.gd_search.specs.declared.outcome.Node.TheVariants.{Split}
+use Rattle.gd_cells.specs.declared.node.Node.TheVariants.{Split}
 use Rattle.gd_search.proofs.Writing.{lines-joined, written-split}
 use Rattle.gd_search.proofs.tree.+write_cell.Goals as goal
 
