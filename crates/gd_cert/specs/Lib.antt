@@ -1,0 +1,4 @@
+pub mod Certificates
+pub mod Text
+pub mod Bounds
+pub mod Reading
