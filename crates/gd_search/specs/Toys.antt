@@ -42,13 +42,13 @@ feasible_of shows a = shows ≡ true
 abbrev pub inside_all : List ℤ → Cell → Type 0
 inside_all a c = Unit {0}
 
--- a task whose two roots are refuted at once
+-- a task whose two roots are refuted
 abbrev pub meeting : Questions
 meeting = record {
   roots = 2;
   dims = 1;
   numbers = 1;
-  finest = 0;
+  finest = 1;
   steps = λ l. 0;
   first = λ c. Some (evidence_of c);
   refuted = λ c e. true;
@@ -153,7 +153,7 @@ meeting-grid = record {
   few_numbers = omega arith;
   few_levels = omega arith;
   coordinates = λ l h. omega arith;
-  few_halvings = λ c. omega arith;
+  few_halvings = λ c. omega (arith, halvings-few c 1);
 }
 
 pub meeting-roots : RootsCover meeting never inside_all

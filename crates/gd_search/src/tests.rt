@@ -150,11 +150,11 @@ impl Task for Meeting {
     }
 
     fn floor_level(&self) -> u32 {
-        0
+        1
     }
 
     fn split(&self, cell: &Cell) -> (Cell, Cell) {
-        (*cell, *cell)
+        split_cell(cell, 0)
     }
 
     fn refutes(&self, cell: &Cell) -> Option<Evidence> {

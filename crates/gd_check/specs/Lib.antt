@@ -1,0 +1,5 @@
+pub mod Right
+pub mod Wrong
+pub mod Means
+pub mod Answers
+pub mod Written
