@@ -4,3 +4,4 @@ pub mod Again
 pub mod Marks
 pub mod Used
 mod KnownValues
+pub mod Tables
