@@ -1,0 +1,152 @@
+-- The lines of an open group are right exactly where its tree, its counts and its reason are those of the open verdict.
+use Rattle.std.proofs.Common.{arith, ◌≡◌, ◌≢◌, refl, sym, ap, ◌∙◌, subst, ℕ, zero, suc, ◌+◌, ◌*◌, ◌^◌, ◌<◌, ◌≤◌, Bool, true, false, not, ◌||◌, Option, Some, None, is_none, is_some, cond, nat_le, nat_lt, nat_eq, pow-suc, List, [], ◌∷◌, ◌++◌, length, map, filter, find}
+use Rattle.std.proofs.lemmas.Bool.Decides.{nat_tests}
+use Rattle.std.proofs.lemmas.List.{length-append, map-append}
+use Rattle.std.proofs.lemmas.List.Elements.{filter-append}
+use Rattle.std.proofs.lemmas.List.Folds.{find-append}
+use Rattle.gd_cells.proofs.Cells.{level_at}
+use Rattle.gd_cells.specs.Laws.{NoneRefutes}
+use Rattle.gd_cells.specs.Meaning.{IsCell, Questions, cell_of}
+use Rattle.gd_cells.specs.declared.cell.Cell.{Cell}
+use Rattle.gd_cells.specs.declared.cell.Evidence.{Evidence}
+use Rattle.gd_cells.specs.declared.node.Node.{Node}
+use Rattle.gd_cells.specs.declared.node.Node.TheVariants as node
+use Rattle.gd_check.proofs.Walk.{Fits}
+use Rattle.gd_check.specs.Right.{Branch, Leaf, Fork, Bud, IsSearchedTo, lines_of}
+use Rattle.gd_check.specs.Wrong.{Kind, OfOpen, is_decided, line_code}
+use Rattle.gd_search.proofs.Counted.{left_below, left_in, left_in-append, total, total-add, total-first, total-none, total-same}
+use Rattle.gd_search.proofs.Forest.{cells_below}
+use Rattle.gd_search.proofs.Levels.{is_left}
+use Rattle.gd_search.proofs.Meant.{cell_at_path}
+
+-- ---- what a right line of an open group tells
+no_code : (b : Bool) (k : ℕ) (o : Option ℕ) → cond b (Some k) o ≡ None → (b ≡ false) × (o ≡ None)
+no_code true k o e = absurd cc
+no_code false k o e = (refl, e)
+
+refuted_line : (b : Bool) (k : ℕ) → cond b None (Some k) ≡ None → b ≡ true
+refuted_line true k e = refl
+refuted_line false k e = absurd cc
+
+undecided_line : (o : Option Evidence) (b : Bool) → (is_some o || b) ≡ false → (o ≡ None) × (b ≡ false)
+undecided_line (Some e) b h = absurd cc
+undecided_line None b h = (refl, h)
+
+or_false : (a b : Bool) → (a || b) ≡ false → (a ≡ false) × (b ≡ false)
+or_false true b h = absurd cc
+or_false false b h = (refl, h)
+
+record IsOpenCell (q : Questions) (c : Cell) : Type 0 where
+  first : q.first c ≡ None
+  fails : q.holds (q.centre c) ≡ false
+
+open_cell : (q : Questions) (c : Cell) → is_decided q c ≡ false → IsOpenCell q c
+open_cell q c h = let two = undecided_line (q.first c) (q.holds (q.centre c)) h in record { first = two.0; fails = two.1 }
+
+record IsSplitCell (q : Questions) (last l : ℕ) (c : Cell) : Type 0 where
+  above : l ≢ q.finest
+  higher : l < last
+  still : IsOpenCell q c
+
+split_tells : (q : Questions) (last : ℕ) (c : Cell) → line_code q (OfOpen last) c node.Split ≡ None → IsSplitCell q last c.level c
+split_tells q last c h =
+    let one = no_code (nat_eq c.level q.finest) 57 (cond (is_decided q c || nat_le last c.level) (Some 56) None) h in
+    let two = no_code (is_decided q c || nat_le last c.level) 56 None one.1 in
+    let three = or_false (is_decided q c) (nat_le last c.level) two.0 in
+    record { above = grind (arith, nat_tests, one.0); higher = grind (arith, nat_tests, three.1); still = open_cell q c three.0 }
+
+record IsLeftCell (q : Questions) (last l : ℕ) (c : Cell) : Type 0 where
+  level : l ≡ last
+  still : IsOpenCell q c
+
+left_tells : (q : Questions) (last : ℕ) (c : Cell) → line_code q (OfOpen last) c node.Left ≡ None → IsLeftCell q last c.level c
+left_tells q last c h =
+    let one = no_code (is_decided q c || not (nat_eq c.level last)) 56 None h in
+    let two = or_false (is_decided q c) (not (nat_eq c.level last)) one.0 in
+    record { level = grind (arith, nat_tests, two.1); still = open_cell q c two.0 }
+
+-- ---- the cells of a tree
+record IsPath (q : Questions) (r l p : ℕ) : Type 0 where
+  first : 1 ≤ r
+  last : r ≤ q.roots
+  low : l ≤ q.finest
+  within : p < 2 ^ l
+
+cell_of_path : (q : Questions) (r l p : ℕ) → IsPath q r l p → IsCell q (cell_of q r l p)
+cell_of_path q r l p path = cell_at_path q r l p path.first path.last path.low path.within
+
+half_path : (q : Questions) (r l p side : ℕ) → IsPath q r l p → l < q.finest → side < 2 → IsPath q r (suc l) (2 * p + side)
+half_path q r l p side path above small = record { first = path.first; last = path.last; low = omega arith; within = omega (arith, pow-suc 2 l, path.within) }
+
+lower_path : (q : Questions) (r l p : ℕ) → IsPath q r l p → l < q.finest → IsPath q r (suc l) (2 * p)
+lower_path q r l p path above = let e : 2 * p + 0 ≡ 2 * p = omega arith in subst (IsPath q r (suc l)) e (half_path q r l p 0 path above (omega arith))
+
+root_path : (q : Questions) (r : ℕ) → 1 ≤ r → r ≤ q.roots → IsPath q r 0 0
+root_path q r first last = record { first = first; last = last; low = omega arith; within = omega arith }
+
+split_at : (q : Questions) (last r l p : ℕ) → line_code q (OfOpen last) (cell_of q r l p) node.Split ≡ None → IsSplitCell q last l (cell_of q r l p)
+split_at q last r l p h = subst (λ m. IsSplitCell q last m (cell_of q r l p)) (level_at q.steps q.dims r l p) (split_tells q last (cell_of q r l p) h)
+
+left_at : (q : Questions) (last r l p : ℕ) → line_code q (OfOpen last) (cell_of q r l p) node.Left ≡ None → IsLeftCell q last l (cell_of q r l p)
+left_at q last r l p h = subst (λ m. IsLeftCell q last m (cell_of q r l p)) (level_at q.steps q.dims r l p) (left_tells q last (cell_of q r l p) h)
+
+-- ---- the tree goes down to the level
+searched_below : (q : Questions) (last : ℕ) (b : Branch) (r l p : ℕ) → Fits q (OfOpen last) r l p b → IsSearchedTo q last r l p b
+searched_below q last (Leaf e) r l p fits = refuted_line (q.refuted (cell_of q r l p) e) 50 fits
+searched_below q last (Fork lower upper) r l p fits =
+    let here : IsSplitCell q last l (cell_of q r l p) = split_at q last r l p fits.0 in
+    (here.higher, here.still.first, searched_below q last lower r (suc l) (2 * p) fits.1, searched_below q last upper r (suc l) (2 * p + 1) fits.2)
+searched_below q last Bud r l p fits =
+    let here : IsLeftCell q last l (cell_of q r l p) = left_at q last r l p fits in
+    (here.level, here.still.first)
+
+-- ---- a cell that some evidence refutes has no undecided cell below it
+has_first : (q : Questions) → NoneRefutes q → (c : Cell) (e : Evidence) → IsCell q c → q.refuted c e ≡ true → is_left q c ≡ false
+has_first q none c e cell is =
+    elim (q.first c) as (λ v. q.first c ≡ v → is_none v ≡ false) [
+      | Some f ↦ λ h. refl
+      | None ↦ λ h. let no : q.refuted c e ≡ false = none c e cell h in absurd cc
+    ] refl
+
+still_left : (q : Questions) (c : Cell) → q.first c ≡ None → is_left q c ≡ true
+still_left q c h = rw h refl
+
+nothing_below : (q : Questions) (r l p : ℕ) → is_left q (cell_of q r l p) ≡ false → (j : ℕ) → filter (is_left q) (cells_below q j r l p) ≡ []
+nothing_below q r l p h zero = rw h refl
+nothing_below q r l p h (suc j) = rw h refl
+
+-- ---- no centre of an undecided cell holds
+no_centre : Questions → List Cell → Type 0
+no_centre q cs = find q.holds (map q.centre (filter (is_left q) cs)) ≡ None
+
+no_centre_none : (q : Questions) (cs : List Cell) → filter (is_left q) cs ≡ [] → no_centre q cs
+unfolding no_centre
+no_centre_none q cs h = rw h refl
+
+no_centre_both : (q : Questions) (cs ds : List Cell) → no_centre q cs → no_centre q ds → no_centre q (cs ++ ds)
+unfolding no_centre
+no_centre_both q cs ds h i =
+    ap (λ es. find q.holds (map q.centre es)) (filter-append (is_left q) cs ds)
+    ∙ ap (find q.holds) (map-append q.centre (filter (is_left q) cs) (filter (is_left q) ds))
+    ∙ find-append q.holds (map q.centre (filter (is_left q) cs)) (map q.centre (filter (is_left q) ds))
+    ∙ rw (h, i) refl
+
+no_centre_one : (q : Questions) (c : Cell) → IsOpenCell q c → no_centre q (c ∷ [])
+unfolding no_centre
+no_centre_one q c still = rw (still_left q c still.first, still.fails) refl
+
+no_centre_halved : (q : Questions) (j r l p : ℕ) → is_left q (cell_of q r l p) ≡ true → no_centre q (cells_below q j r (suc l) (2 * p)) → no_centre q (cells_below q j r (suc l) (2 * p + 1)) → no_centre q (cells_below q (suc j) r l p)
+no_centre_halved q j r l p is lower upper = rw is (no_centre_both q (cells_below q j r (suc l) (2 * p)) (cells_below q j r (suc l) (2 * p + 1)) lower upper)
+
+no_centre_below : (q : Questions) → NoneRefutes q → (last : ℕ) (b : Branch) (r l p : ℕ) → IsPath q r l p → Fits q (OfOpen last) r l p b → (j : ℕ) → l + j ≤ last → no_centre q (cells_below q j r l p)
+no_centre_below q none last (Leaf e) r l p path fits j low =
+    no_centre_none q (cells_below q j r l p) (nothing_below q r l p (has_first q none (cell_of q r l p) e (cell_of_path q r l p path) (refuted_line (q.refuted (cell_of q r l p) e) 50 fits)) j)
+no_centre_below q none last (Fork lower upper) r l p path fits zero low = no_centre_one q (cell_of q r l p) (split_at q last r l p fits.0).still
+no_centre_below q none last (Fork lower upper) r l p path fits (suc j) low =
+    let here : IsSplitCell q last l (cell_of q r l p) = split_at q last r l p fits.0 in
+    let above : l < q.finest = omega (arith, path.low, here.above) in
+    no_centre_halved q j r l p (still_left q (cell_of q r l p) here.still.first)
+    (no_centre_below q none last lower r (suc l) (2 * p) (lower_path q r l p path above) fits.1 j (omega arith))
+    (no_centre_below q none last upper r (suc l) (2 * p + 1) (half_path q r l p 1 path above (omega arith)) fits.2 j (omega arith))
+no_centre_below q none last Bud r l p path fits zero low = no_centre_one q (cell_of q r l p) (left_at q last r l p fits).still
+no_centre_below q none last Bud r l p path fits (suc j) low = let here : l ≡ last = (left_at q last r l p fits).level in absurd (omega (arith, here))
