@@ -4,7 +4,9 @@ use Rattle.std.proofs.lemmas.Bool.Decides.{nat_tests}
 use Rattle.std.proofs.lemmas.List.{length-append, map-append}
 use Rattle.std.proofs.lemmas.List.Elements.{filter-append}
 use Rattle.std.proofs.lemmas.List.Folds.{find-append}
+use Rattle.std.specs.List.{flat_map}
 use Rattle.gd_cells.proofs.Cells.{level_at}
+use Rattle.gd_cells.specs.Grid.{count_from}
 use Rattle.gd_cells.specs.Laws.{NoneRefutes}
 use Rattle.gd_cells.specs.Meaning.{IsCell, Questions, cell_of}
 use Rattle.gd_cells.specs.declared.cell.Cell.{Cell}
@@ -12,9 +14,10 @@ use Rattle.gd_cells.specs.declared.cell.Evidence.{Evidence}
 use Rattle.gd_cells.specs.declared.node.Node.{Node}
 use Rattle.gd_cells.specs.declared.node.Node.TheVariants as node
 use Rattle.gd_check.proofs.Walk.{Fits}
-use Rattle.gd_check.specs.Right.{Branch, Leaf, Fork, Bud, IsSearchedTo, lines_of}
-use Rattle.gd_check.specs.Wrong.{Kind, OfOpen, is_decided, line_code}
-use Rattle.gd_search.proofs.Counted.{left_below, left_in, left_in-append, total, total-add, total-first, total-none, total-same}
+use Rattle.gd_check.specs.Right.{Branch, Leaf, Fork, Bud, AreBelow, IsForest, IsSearchedTo, lines_of}
+use Rattle.gd_check.specs.Wrong.{Kind, OfOpen, is_decided, is_split, line_code}
+use Rattle.gd_check.specs.Wrong as wrong
+use Rattle.gd_search.proofs.Counted.{left_below, left_in, left_in-append, left_under, none_left, total, total-add, total-first, total-none, total-same}
 use Rattle.gd_search.proofs.Forest.{cells_below}
 use Rattle.gd_search.proofs.Levels.{is_left}
 use Rattle.gd_search.proofs.Meant.{cell_at_path}
@@ -150,3 +153,134 @@ no_centre_below q none last (Fork lower upper) r l p path fits (suc j) low =
     (no_centre_below q none last upper r (suc l) (2 * p + 1) (half_path q r l p 1 path above (omega arith)) fits.2 j (omega arith))
 no_centre_below q none last Bud r l p path fits zero low = no_centre_one q (cell_of q r l p) (left_at q last r l p fits).still
 no_centre_below q none last Bud r l p path fits (suc j) low = let here : l ≡ last = (left_at q last r l p fits).level in absurd (omega (arith, here))
+
+-- ---- the lines of undecided and of halved cells
+lefts_of : List Node → ℕ
+lefts_of lines = length (filter wrong.is_left lines)
+
+splits_of : List Node → ℕ
+splits_of lines = length (filter is_split lines)
+
+lefts-append : (xs ys : List Node) → lefts_of (xs ++ ys) ≡ lefts_of xs + lefts_of ys
+unfolding lefts_of
+lefts-append xs ys = ap length (filter-append wrong.is_left xs ys) ∙ length-append (filter wrong.is_left xs) (filter wrong.is_left ys)
+
+splits-append : (xs ys : List Node) → splits_of (xs ++ ys) ≡ splits_of xs + splits_of ys
+unfolding splits_of
+splits-append xs ys = ap length (filter-append is_split xs ys) ∙ length-append (filter is_split xs) (filter is_split ys)
+
+lefts-split : (xs ys : List Node) → lefts_of (node.Split ∷ (xs ++ ys)) ≡ lefts_of xs + lefts_of ys
+unfolding lefts_of
+lefts-split xs ys = lefts-append xs ys
+
+splits-split : (xs ys : List Node) → splits_of (node.Split ∷ (xs ++ ys)) ≡ suc (splits_of xs + splits_of ys)
+unfolding splits_of
+splits-split xs ys = ap suc (splits-append xs ys)
+
+none_in : (q : Questions) (cs : List Cell) → filter (is_left q) cs ≡ [] → left_in q cs ≡ 0
+unfolding left_in
+none_in q cs h = rw h refl
+
+one_in : (q : Questions) (c : Cell) → is_left q c ≡ true → left_in q (c ∷ []) ≡ 1
+unfolding left_in
+one_in q c h = rw h refl
+
+-- how many are undecided so many levels below a cell
+none_counted : (q : Questions) (r l p : ℕ) → is_left q (cell_of q r l p) ≡ false → (j : ℕ) → left_below q r l p j ≡ 0
+unfolding left_below
+none_counted q r l p h j = none_in q (cells_below q j r l p) (nothing_below q r l p h j)
+
+here_counted : (q : Questions) (r l p : ℕ) → is_left q (cell_of q r l p) ≡ true → left_below q r l p 0 ≡ 1
+unfolding left_below
+here_counted q r l p h = one_in q (cell_of q r l p) h
+
+halves_counted : (q : Questions) (r l p : ℕ) → is_left q (cell_of q r l p) ≡ true → (j : ℕ) → left_below q r l p (suc j) ≡ left_below q r (suc l) (2 * p) j + left_below q r (suc l) (2 * p + 1) j
+unfolding left_below
+halves_counted q r l p h j = rw h (left_in-append q (cells_below q j r (suc l) (2 * p)) (cells_below q j r (suc l) (2 * p + 1)))
+
+-- and above that level
+none_spent : (q : Questions) (r l p : ℕ) → is_left q (cell_of q r l p) ≡ false → (j : ℕ) → total (left_below q r l p) j ≡ 0
+none_spent q r l p h j = total-same (left_below q r l p) (λ i. 0) j (λ i low. none_counted q r l p h i) ∙ total-none j
+
+halves_spent : (q : Questions) (r l p : ℕ) → is_left q (cell_of q r l p) ≡ true → (j : ℕ) → total (left_below q r l p) (suc j) ≡ suc (total (left_below q r (suc l) (2 * p)) j + total (left_below q r (suc l) (2 * p + 1)) j)
+halves_spent q r l p h j =
+    let lower : ℕ → ℕ = left_below q r (suc l) (2 * p) in
+    let upper : ℕ → ℕ = left_below q r (suc l) (2 * p + 1) in
+    omega (
+      arith,
+      total-first (left_below q r l p) j,
+      here_counted q r l p h,
+      total-same (λ i. left_below q r l p (suc i)) (λ i. lower i + upper i) j (λ i low. halves_counted q r l p h i),
+      total-add lower upper j,
+    )
+
+lefts_below : (q : Questions) → NoneRefutes q → (last : ℕ) (b : Branch) (r l p : ℕ) → IsPath q r l p → last ≤ q.finest → IsSearchedTo q last r l p b → (d : ℕ) → l + d ≡ last → lefts_of (lines_of b) ≡ left_below q r l p d
+unfolding lefts_of
+lefts_below q none last (Leaf e) r l p path deep is d at = sym (none_counted q r l p (has_first q none (cell_of q r l p) e (cell_of_path q r l p path) is) d)
+lefts_below q none last (Fork lower upper) r l p path deep is zero at = absurd (omega (arith, is.0))
+lefts_below q none last (Fork lower upper) r l p path deep is (suc d) at =
+    let above : l < q.finest = omega (arith, is.0) in
+    lefts-split (lines_of lower) (lines_of upper)
+    ∙ omega (
+      arith,
+      lefts_below q none last lower r (suc l) (2 * p) (lower_path q r l p path above) deep is.2 d (omega arith),
+      lefts_below q none last upper r (suc l) (2 * p + 1) (half_path q r l p 1 path above (omega arith)) deep is.3 d (omega arith),
+      halves_counted q r l p (still_left q (cell_of q r l p) is.1) d,
+    )
+lefts_below q none last Bud r l p path deep is zero at = sym (here_counted q r l p (still_left q (cell_of q r l p) is.1))
+lefts_below q none last Bud r l p path deep is (suc d) at = absurd (omega (arith, is.0))
+
+splits_below : (q : Questions) → NoneRefutes q → (last : ℕ) (b : Branch) (r l p : ℕ) → IsPath q r l p → last ≤ q.finest → IsSearchedTo q last r l p b → (d : ℕ) → l + d ≡ last → splits_of (lines_of b) ≡ total (left_below q r l p) d
+unfolding splits_of
+splits_below q none last (Leaf e) r l p path deep is d at = sym (none_spent q r l p (has_first q none (cell_of q r l p) e (cell_of_path q r l p path) is) d)
+splits_below q none last (Fork lower upper) r l p path deep is zero at = absurd (omega (arith, is.0))
+splits_below q none last (Fork lower upper) r l p path deep is (suc d) at =
+    let above : l < q.finest = omega (arith, is.0) in
+    splits-split (lines_of lower) (lines_of upper)
+    ∙ omega (
+      arith,
+      splits_below q none last lower r (suc l) (2 * p) (lower_path q r l p path above) deep is.2 d (omega arith),
+      splits_below q none last upper r (suc l) (2 * p + 1) (half_path q r l p 1 path above (omega arith)) deep is.3 d (omega arith),
+      halves_spent q r l p (still_left q (cell_of q r l p) is.1) d,
+    )
+splits_below q none last Bud r l p path deep is zero at = refl
+splits_below q none last Bud r l p path deep is (suc d) at = absurd (omega (arith, is.0))
+
+-- ---- all roots
+map_below : (P Q : ℕ → Branch → Type 0) → ((r : ℕ) (b : Branch) → P r b → Q r b) → (a : ℕ) (bs : List Branch) → AreBelow P a bs → AreBelow Q a bs
+map_below P Q f a [] h = tt
+map_below P Q f a (b ∷ bs) h = (f a b h.0, map_below P Q f (a + 1) bs h.1)
+
+no_centre_roots : (q : Questions) → NoneRefutes q → (last : ℕ) (bs : List Branch) (a : ℕ) → 1 ≤ a → a + length bs ≤ suc q.roots → AreBelow (λ root. Fits q (OfOpen last) root 0 0) a bs → (j : ℕ) → j ≤ last →
+    no_centre q (flat_map (λ r. cells_below q j r 0 0) (count_from a (length bs)))
+no_centre_roots q none last [] a first few fits j low = no_centre_none q [] refl
+no_centre_roots q none last (b ∷ bs) a first few fits j low =
+    no_centre_both q (cells_below q j a 0 0) (flat_map (λ r. cells_below q j r 0 0) (count_from (a + 1) (length bs)))
+    (no_centre_below q none last b a 0 0 (root_path q a first (omega arith)) fits.0 j (omega arith))
+    (no_centre_roots q none last bs (a + 1) (omega arith) (omega arith) fits.1 j low)
+
+lefts_roots : (q : Questions) → NoneRefutes q → (last : ℕ) (bs : List Branch) (a : ℕ) → 1 ≤ a → a + length bs ≤ suc q.roots → last ≤ q.finest → AreBelow (λ root. IsSearchedTo q last root 0 0) a bs → lefts_of (flat_map lines_of bs) ≡ left_under q a (length bs) last
+unfolding lefts_of left_under left_below
+lefts_roots q none last [] a first few deep is = sym (none_left q)
+lefts_roots q none last (b ∷ bs) a first few deep is =
+    lefts-append (lines_of b) (flat_map lines_of bs)
+    ∙ omega (
+      arith,
+      lefts_below q none last b a 0 0 (root_path q a first (omega arith)) deep is.0 last (omega arith),
+      lefts_roots q none last bs (a + 1) (omega arith) (omega arith) deep is.1,
+      left_in-append q (cells_below q last a 0 0) (flat_map (λ r. cells_below q last r 0 0) (count_from (a + 1) (length bs))),
+    )
+
+splits_roots : (q : Questions) → NoneRefutes q → (last : ℕ) (bs : List Branch) (a : ℕ) → 1 ≤ a → a + length bs ≤ suc q.roots → last ≤ q.finest → AreBelow (λ root. IsSearchedTo q last root 0 0) a bs → splits_of (flat_map lines_of bs) ≡ total (left_under q a (length bs)) last
+unfolding splits_of left_under left_below
+splits_roots q none last [] a first few deep is = sym (total-same (left_under q a 0) (λ j. 0) last (λ j h. none_left q) ∙ total-none last)
+splits_roots q none last (b ∷ bs) a first few deep is =
+    let more : ℕ → List Cell = λ j. flat_map (λ r. cells_below q j r 0 0) (count_from (a + 1) (length bs)) in
+    splits-append (lines_of b) (flat_map lines_of bs)
+    ∙ omega (
+      arith,
+      splits_below q none last b a 0 0 (root_path q a first (omega arith)) deep is.0 last (omega arith),
+      splits_roots q none last bs (a + 1) (omega arith) (omega arith) deep is.1,
+      total-same (λ j. left_in q (cells_below q j a 0 0 ++ more j)) (λ j. left_in q (cells_below q j a 0 0) + left_in q (more j)) last (λ j h. left_in-append q (cells_below q j a 0 0) (more j)),
+      total-add (λ j. left_in q (cells_below q j a 0 0)) (λ j. left_in q (more j)) last,
+    )

@@ -36,7 +36,7 @@ total-none zero = refl
 total-none (suc n) = omega (arith, total-none n)
 
 -- ---- a cell
-pub left_in : Questions → List Cell → ℕ
+unfoldable pub left_in : Questions → List Cell → ℕ
 left_in q cs = length (filter (is_left q) cs)
 
 pub left_in-append : (q : Questions) (cs ds : List Cell) → left_in q (cs ++ ds) ≡ left_in q cs + left_in q ds
@@ -46,7 +46,7 @@ left_in-append q cs ds = ap length (filter-append (is_left q) cs ds) ∙ length-
 pub leaves-append : (xs ys : List Node) → leaves_of (xs ++ ys) ≡ leaves_of xs + leaves_of ys
 leaves-append xs ys = ap length (filter-append is_refuted xs ys) ∙ length-append (filter is_refuted xs) (filter is_refuted ys)
 
-pub left_below : Questions → ℕ → ℕ → ℕ → ℕ → ℕ
+unfoldable pub left_below : Questions → ℕ → ℕ → ℕ → ℕ → ℕ
 left_below q r l p j = left_in q (cells_below q j r l p)
 
 counted_below : (q : Questions) (depth r l p : ℕ) → leaves_of (tree_below q depth r l p) + left_below q r l p depth ≡ total (left_below q r l p) depth + 1
@@ -80,7 +80,7 @@ unfolding left_in
 none_left q = refl
 
 -- ---- all roots
-pub left_under : Questions → ℕ → ℕ → ℕ → ℕ
+unfoldable pub left_under : Questions → ℕ → ℕ → ℕ → ℕ
 left_under q a n j = left_in q (flat_map (λ r. cells_below q j r 0 0) (count_from a n))
 
 counted_roots : (q : Questions) (level a n : ℕ) → leaves_of (flat_map (λ r. tree_below q level r 0 0) (count_from a n)) + left_under q a n level ≡ total (left_under q a n) level + n
