@@ -50,7 +50,7 @@ zero_at zero k = refl
 zero_at (suc n) zero = refl
 zero_at (suc n) (suc k) = zero_at n k
 
-length-count_from : (a n : ℕ) → length (count_from a n) ≡ n
+pub length-count_from : (a n : ℕ) → length (count_from a n) ≡ n
 length-count_from a zero = refl
 length-count_from a (suc n) = ap suc (length-count_from (a + 1) n)
 

@@ -13,6 +13,7 @@ use Rattle.gd_cells.specs.declared.cell.Cell.{Cell}
 use Rattle.gd_cells.specs.declared.cell.Evidence.{Evidence}
 use Rattle.gd_cells.specs.declared.node.Node.{Node}
 use Rattle.gd_cells.specs.declared.node.Node.TheVariants as node
+use Rattle.gd_check.proofs.Ends.{or_false}
 use Rattle.gd_check.proofs.Walk.{Fits}
 use Rattle.gd_check.specs.Right.{Branch, Leaf, Fork, Bud, AreBelow, IsForest, IsSearchedTo, lines_of}
 use Rattle.gd_check.specs.Wrong.{Kind, OfOpen, is_decided, is_split, line_code}
@@ -34,10 +35,6 @@ refuted_line false k e = absurd cc
 undecided_line : (o : Option Evidence) (b : Bool) → (is_some o || b) ≡ false → (o ≡ None) × (b ≡ false)
 undecided_line (Some e) b h = absurd cc
 undecided_line None b h = (refl, h)
-
-or_false : (a b : Bool) → (a || b) ≡ false → (a ≡ false) × (b ≡ false)
-or_false true b h = absurd cc
-or_false false b h = (refl, h)
 
 record IsOpenCell (q : Questions) (c : Cell) : Type 0 where
   first : q.first c ≡ None
