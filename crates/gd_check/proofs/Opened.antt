@@ -1,27 +1,32 @@
 -- The lines of an open group are right exactly where its tree, its counts and its reason are those of the open verdict.
-use Rattle.std.proofs.Common.{arith, ◌≡◌, ◌≢◌, refl, sym, ap, ◌∙◌, subst, ℕ, zero, suc, ◌+◌, ◌*◌, ◌^◌, ◌<◌, ◌≤◌, Bool, true, false, not, ◌||◌, Option, Some, None, is_none, is_some, cond, nat_le, nat_lt, nat_eq, pow-suc, List, [], ◌∷◌, ◌++◌, length, map, filter, find}
+use Rattle.std.proofs.Common.{arith, ◌≡◌, ◌≢◌, refl, sym, ap, ◌∙◌, subst, ℕ, zero, suc, ◌+◌, ◌*◌, ◌^◌, ◌<◌, ◌≤◌, Bool, true, false, not, ◌||◌, Option, Some, None, is_none, is_some, cond, nat_le, nat_lt, nat_eq, pow-suc, inl, inr, List, [], ◌∷◌, ◌++◌, length, map, filter, find}
+use Rattle.std.proofs.lemmas.Bool.{cases_lt}
 use Rattle.std.proofs.lemmas.Bool.Decides.{nat_tests}
 use Rattle.std.proofs.lemmas.List.{length-append, map-append}
 use Rattle.std.proofs.lemmas.List.Elements.{filter-append}
 use Rattle.std.proofs.lemmas.List.Folds.{find-append}
 use Rattle.std.specs.List.{flat_map}
+use Rattle.gd_base.specs.declared.verdict.Reason.{Reason}
 use Rattle.gd_cells.proofs.Cells.{level_at}
 use Rattle.gd_cells.specs.Grid.{count_from}
-use Rattle.gd_cells.specs.Laws.{NoneRefutes}
+use Rattle.gd_cells.specs.Laws.{IsGrid, NoneRefutes}
 use Rattle.gd_cells.specs.Meaning.{IsCell, Questions, cell_of}
 use Rattle.gd_cells.specs.declared.cell.Cell.{Cell}
 use Rattle.gd_cells.specs.declared.cell.Evidence.{Evidence}
 use Rattle.gd_cells.specs.declared.node.Node.{Node}
 use Rattle.gd_cells.specs.declared.node.Node.TheVariants as node
-use Rattle.gd_check.proofs.Ends.{or_false}
+use Rattle.gd_check.proofs.Ends.{GoesOn, StaysOpen, going, none_stays, or_false, spent_fits, spent_grows, staying, stays_open}
 use Rattle.gd_check.proofs.Walk.{Fits}
-use Rattle.gd_check.specs.Right.{Branch, Leaf, Fork, Bud, AreBelow, IsForest, IsSearchedTo, lines_of}
-use Rattle.gd_check.specs.Wrong.{Kind, OfOpen, is_decided, is_split, line_code}
+use Rattle.gd_check.specs.Right.{Branch, Leaf, Fork, Bud, AreBelow, IsForest, IsOpen, IsSearchedTo, lines_of}
+use Rattle.gd_check.specs.Wrong.{Kind, OfOpen, are_wrong_counts, is_decided, is_split, is_wrong_reason, line_code}
 use Rattle.gd_check.specs.Wrong as wrong
-use Rattle.gd_search.proofs.Counted.{left_below, left_in, left_in-append, left_under, none_left, total, total-add, total-first, total-none, total-same}
-use Rattle.gd_search.proofs.Forest.{cells_below}
-use Rattle.gd_search.proofs.Levels.{is_left}
-use Rattle.gd_search.proofs.Meant.{cell_at_path}
+use Rattle.gd_search.proofs.Counted.{left_below, left_in, left_in-append, left_under, none_left, total, total-add, total-first, total-none, total-same, spent_under, undecided_under}
+use Rattle.gd_search.proofs.Forest.{candidates_by_roots, cells_below}
+use Rattle.gd_search.proofs.Levels.{candidates, centres_are, is_left}
+use Rattle.gd_search.proofs.Meant.{cell_at_path, low_level}
+use Rattle.gd_search.specs.Trees.{tree}
+use Rattle.gd_search.specs.Verdict.{IsVerdict, centres, end_at, end_with, spent, undecided}
+use Rattle.gd_search.specs.Verdict as verdict
 
 -- ---- what a right line of an open group tells
 no_code : (b : Bool) (k : ℕ) (o : Option ℕ) → cond b (Some k) o ≡ None → (b ≡ false) × (o ≡ None)
@@ -281,3 +286,129 @@ splits_roots q none last (b ∷ bs) a first few deep is =
       total-same (λ j. left_in q (cells_below q j a 0 0 ++ more j)) (λ j. left_in q (cells_below q j a 0 0) + left_in q (more j)) last (λ j h. left_in-append q (cells_below q j a 0 0) (more j)),
       total-add (λ j. left_in q (cells_below q j a 0 0)) (λ j. left_in q (more j)) last,
     )
+
+-- ---- a tree that leaves a cell ends at a level of the grid
+deep_below : (q : Questions) (last : ℕ) (b : Branch) (r l p : ℕ) → l ≤ q.finest → Fits q (OfOpen last) r l p b → q.finest < last → lefts_of (lines_of b) ≡ 0
+unfolding lefts_of
+deep_below q last (Leaf e) r l p low fits deep = refl
+deep_below q last (Fork lower upper) r l p low fits deep =
+    let here : IsSplitCell q last l (cell_of q r l p) = split_at q last r l p fits.0 in
+    let above : l < q.finest = omega (arith, low, here.above) in
+    lefts-split (lines_of lower) (lines_of upper)
+    ∙ omega (arith, deep_below q last lower r (suc l) (2 * p) (omega arith) fits.1 deep, deep_below q last upper r (suc l) (2 * p + 1) (omega arith) fits.2 deep)
+deep_below q last Bud r l p low fits deep = let here : l ≡ last = (left_at q last r l p fits).level in absurd (omega (arith, here))
+
+deep_roots : (q : Questions) (last : ℕ) (bs : List Branch) (a : ℕ) → AreBelow (λ root. Fits q (OfOpen last) root 0 0) a bs → q.finest < last → lefts_of (flat_map lines_of bs) ≡ 0
+unfolding lefts_of
+deep_roots q last [] a fits deep = refl
+deep_roots q last (b ∷ bs) a fits deep =
+    lefts-append (lines_of b) (flat_map lines_of bs) ∙ omega (arith, deep_below q last b a 0 0 (omega arith) fits.0 deep, deep_roots q last bs (a + 1) fits.1 deep)
+
+-- ---- what the tree of a group tells of the levels
+FitsOpen : Questions → ℕ → List Node → Type 0
+FitsOpen q level nodes = IsForest q.roots (λ root. Fits q (OfOpen level) root 0 0) nodes
+
+Searched : Questions → ℕ → List Node → Type 0
+Searched q level nodes = IsForest q.roots (λ root. IsSearchedTo q level root 0 0) nodes
+
+searched : (q : Questions) (level : ℕ) (nodes : List Node) → FitsOpen q level nodes → Searched q level nodes
+unfolding FitsOpen Searched
+searched q level nodes fits = record {
+  branches = fits.branches;
+  count = fits.count;
+  below = map_below (λ root. Fits q (OfOpen level) root 0 0) (λ root. IsSearchedTo q level root 0 0) (λ r b. searched_below q level b r 0 0) 1 fits.branches fits.below;
+  spelled = fits.spelled;
+}
+
+lefts_are : (q : Questions) → IsGrid q → NoneRefutes q → (level : ℕ) (nodes : List Node) → level ≤ q.finest → Searched q level nodes → lefts_of nodes ≡ length (undecided q level)
+unfolding Searched
+lefts_are q grid none level nodes low is =
+    ap lefts_of is.spelled
+    ∙ lefts_roots q none level is.branches 1 (omega arith) (omega (arith, is.count)) low is.below
+    ∙ ap (λ n. left_under q 1 n level) is.count
+    ∙ sym (undecided_under q grid level low)
+
+splits_are : (q : Questions) → IsGrid q → NoneRefutes q → (level : ℕ) (nodes : List Node) → level ≤ q.finest → Searched q level nodes → splits_of nodes ≡ spent q level
+unfolding Searched
+splits_are q grid none level nodes low is =
+    ap splits_of is.spelled
+    ∙ splits_roots q none level is.branches 1 (omega arith) (omega (arith, is.count)) low is.below
+    ∙ ap (λ n. total (left_under q 1 n) level) is.count
+    ∙ sym (spent_under q grid level (omega arith))
+
+centres_fail : (q : Questions) → IsGrid q → NoneRefutes q → (level : ℕ) (nodes : List Node) → level ≤ q.finest → FitsOpen q level nodes → (m : ℕ) → m ≤ level → find q.holds (centres q m) ≡ None
+unfolding FitsOpen no_centre
+centres_fail q grid none level nodes deep fits m low =
+    ap (find q.holds) (centres_are q grid m (omega arith))
+    ∙ ap (λ cs. find q.holds (map q.centre (filter (is_left q) cs))) (candidates_by_roots q grid m (omega arith))
+    ∙ ap (λ n. find q.holds (map q.centre (filter (is_left q) (flat_map (λ r. cells_below q m r 0 0) (count_from 1 n))))) (sym fits.count)
+    ∙ no_centre_roots q none level fits.branches 1 (omega arith) (omega (arith, fits.count)) fits.below m low
+
+-- ---- the counts
+record AreCounts (q : Questions) (budget level u s : ℕ) (why : Reason) (nodes : List Node) : Type 0 where
+  lefts : u ≡ lefts_of nodes
+  splits : s ≡ splits_of nodes
+  affords : s ≤ budget
+  reasons : is_wrong_reason q budget level u s why ≡ false
+  some : u ≢ 0
+
+counts_tell : (q : Questions) (budget level u s : ℕ) (why : Reason) (nodes : List Node) → are_wrong_counts q budget level u s why nodes ≡ false → AreCounts q budget level u s why nodes
+unfolding lefts_of splits_of
+counts_tell q budget level u s why nodes h =
+    let one = or_false (not (nat_eq u (length (filter wrong.is_left nodes)))) (not (nat_eq s (length (filter is_split nodes))) || (nat_lt budget s || (is_wrong_reason q budget level u s why || nat_eq u 0))) h in
+    let two = or_false (not (nat_eq s (length (filter is_split nodes)))) (nat_lt budget s || (is_wrong_reason q budget level u s why || nat_eq u 0)) one.1 in
+    let three = or_false (nat_lt budget s) (is_wrong_reason q budget level u s why || nat_eq u 0) two.1 in
+    let four = or_false (is_wrong_reason q budget level u s why) (nat_eq u 0) three.1 in
+    record {
+      lefts = grind (arith, nat_tests, one.0);
+      splits = grind (arith, nat_tests, two.0);
+      affords = grind (arith, nat_tests, three.0);
+      reasons = four.0;
+      some = grind (arith, nat_tests, four.1);
+    }
+
+counts_pass : (q : Questions) (budget level u s : ℕ) (why : Reason) (nodes : List Node) → AreCounts q budget level u s why nodes → are_wrong_counts q budget level u s why nodes ≡ false
+unfolding lefts_of splits_of
+counts_pass q budget level u s why nodes c =
+    let a : nat_eq u (length (filter wrong.is_left nodes)) ≡ true = grind (arith, nat_tests, c.lefts) in
+    let b : nat_eq s (length (filter is_split nodes)) ≡ true = grind (arith, nat_tests, c.splits) in
+    let d : nat_lt budget s ≡ false = grind (arith, nat_tests, c.affords) in
+    let e : nat_eq u 0 ≡ false = grind (arith, nat_tests, c.some) in
+    rw (a, b, d, c.reasons, e) refl
+
+low_of : (q : Questions) (level : ℕ) (nodes : List Node) → FitsOpen q level nodes → lefts_of nodes ≢ 0 → level ≤ q.finest
+unfolding FitsOpen
+low_of q level nodes fits some = elim (cases_lt q.finest level) [
+  | inl above ↦ absurd (some (ap lefts_of fits.spelled ∙ deep_roots q level fits.branches 1 fits.below above))
+  | inr low ↦ low
+]
+
+-- ---- no search ends before the level, and it stays open there
+before_level : (q : Questions) → IsGrid q → (budget level : ℕ) → level ≤ q.finest → length (undecided q level) ≢ 0 → spent q level ≤ budget → ((m : ℕ) → m ≤ level → find q.holds (centres q m) ≡ None) → (m : ℕ) → m < level → end_at q budget m ≡ None
+unfolding end_at
+before_level q grid budget level low some affords fails m above =
+    going (find q.holds (centres q m)) (tree q m) m (length (undecided q m)) (spent q m) q.roots q.finest budget (record {
+      fails = fails m (omega arith);
+      some = λ zero_there. some (none_stays q grid level m (omega arith) low zero_there);
+      above = λ there. omega (arith, there);
+      affords = omega (arith, spent_grows q level (suc m) above);
+    })
+
+open_verdict : (q : Questions) → IsGrid q → (budget level u s : ℕ) (why : Reason) → level ≤ q.finest → u ≡ length (undecided q level) → s ≡ spent q level → s ≤ budget → is_wrong_reason q budget level u s why ≡ false → u ≢ 0 →
+    ((m : ℕ) → m ≤ level → find q.holds (centres q m) ≡ None) → IsVerdict q budget (verdict.Open (tree q level) level u s why)
+unfolding end_at
+open_verdict q grid budget level u s why low lefts splits affords reasons some fails =
+    let e : end_with (find q.holds (centres q level)) (tree q level) level (length (undecided q level)) (spent q level) q.roots q.finest budget ≡ Some (verdict.Open (tree q level) level u s why) =
+    rw (fails level (omega arith), sym lefts, sym splits) (staying q (tree q level) level u s q.roots budget why some reasons) in
+    (level, before_level q grid budget level low (λ zero_there. some (lefts ∙ zero_there)) (omega (arith, splits)) fails, e)
+
+fits_open : (q : Questions) → IsGrid q → NoneRefutes q → (budget level u s : ℕ) (why : Reason) (nodes : List Node) → FitsOpen q level nodes → AreCounts q budget level u s why nodes → IsOpen q budget level u s why nodes
+unfolding Searched
+fits_open q grid none budget level u s why nodes fits counts =
+    let low : level ≤ q.finest = low_of q level nodes fits (λ zero_there. counts.some (counts.lefts ∙ zero_there)) in
+    let is : Searched q level nodes = searched q level nodes fits in
+    record {
+      searched = is;
+      end = open_verdict q grid budget level u s why low (counts.lefts ∙ lefts_are q grid none level nodes low is) (counts.splits ∙ splits_are q grid none level nodes low is) counts.affords counts.reasons counts.some
+          (centres_fail q grid none level nodes low fits);
+    }
