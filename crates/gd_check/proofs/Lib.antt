@@ -1,1 +1,5 @@
 pub mod Walk
+pub mod Opened
+pub mod Groups
+pub mod Wholes
+pub mod Meant
