@@ -1,5 +1,5 @@
 -- How a search ends at a level, and what the levels before it tell.
-use Rattle.std.proofs.Common.{arith, ◌≡◌, ◌≢◌, refl, sym, ap, ◌∙◌, subst, add-one, ℕ, zero, suc, ◌+◌, ◌*◌, ◌<◌, ◌≤◌, Bool, true, false, not, ◌||◌, Option, Some, None, cond, nat_le, nat_lt, nat_eq, List, length, map, filter, find}
+use Rattle.std.proofs.Common.{arith, ◌≡◌, ◌≢◌, refl, sym, ap, ◌∙◌, subst, add-one, ℕ, zero, suc, ◌+◌, ◌*◌, ◌<◌, ◌≤◌, Bool, true, false, not, ◌||◌, Option, Some, None, cond, nat_le, nat_lt, nat_eq, List, length, filter, find}
 use Rattle.std.proofs.lemmas.Bool.Decides.{nat_tests}
 use Rattle.std.proofs.lemmas.List.Filters.{length-filter_both}
 use Rattle.gd_base.specs.declared.verdict.Reason.{Reason}
@@ -16,7 +16,7 @@ use Rattle.gd_check.specs.Wrong.{is_wrong_reason}
 use Rattle.gd_search.proofs.Levels.{candidates, candidates-suc, candidates-zero, is_left, length-map, next_counted, undecided_counted}
 use Rattle.gd_search.proofs.Meant.{low_level}
 use Rattle.gd_search.specs.Trees.{tree}
-use Rattle.gd_search.specs.Verdict.{Accepted, Rejected, Open, IsVerdict, centres, end_at, end_with, spent, undecided}
+use Rattle.gd_search.specs.Verdict.{Rejected, Open, centres, end_at, end_with, spent, undecided}
 
 pub or_false : (a b : Bool) → (a || b) ≡ false → (a ≡ false) × (b ≡ false)
 or_false true b h = absurd cc
@@ -125,7 +125,7 @@ staying q lines l u s roots budget reason.Budget some reasons =
     rw (a, two.1, c) refl
 
 -- ---- what the levels before a level have spent
-on_before : (q : Questions) (budget l : ℕ) → end_at q budget l ≡ None → GoesOn (find q.holds (centres q l)) l (length (undecided q l)) (spent q l) q.finest budget
+pub on_before : (q : Questions) (budget l : ℕ) → end_at q budget l ≡ None → GoesOn (find q.holds (centres q l)) l (length (undecided q l)) (spent q l) q.finest budget
 unfolding end_at
 on_before q budget l h = goes_on (find q.holds (centres q l)) (tree q l) l (length (undecided q l)) (spent q l) q.roots q.finest budget h
 

@@ -6,23 +6,27 @@ use Rattle.std.proofs.lemmas.List.{length-append, map-append}
 use Rattle.std.proofs.lemmas.List.Elements.{filter-append}
 use Rattle.std.proofs.lemmas.List.Folds.{find-append}
 use Rattle.std.specs.List.{flat_map}
+use Rattle.std.specs.Option.{option_or}
 use Rattle.gd_base.specs.declared.verdict.Reason.{Reason}
 use Rattle.gd_cells.proofs.Cells.{level_at}
 use Rattle.gd_cells.specs.Grid.{count_from}
-use Rattle.gd_cells.specs.Laws.{IsGrid, NoneRefutes}
+use Rattle.gd_cells.specs.Laws.{FirstRefutes, IsGrid, NoneRefutes}
 use Rattle.gd_cells.specs.Meaning.{IsCell, Questions, cell_of}
 use Rattle.gd_cells.specs.declared.cell.Cell.{Cell}
 use Rattle.gd_cells.specs.declared.cell.Evidence.{Evidence}
 use Rattle.gd_cells.specs.declared.node.Node.{Node}
 use Rattle.gd_cells.specs.declared.node.Node.TheVariants as node
-use Rattle.gd_check.proofs.Ends.{GoesOn, StaysOpen, going, none_stays, or_false, spent_fits, spent_grows, staying, stays_open}
-use Rattle.gd_check.proofs.Walk.{Fits}
+use Rattle.gd_cert.specs.Certificates.{Open}
+use Rattle.gd_cert.specs.Reading.{fault}
+use Rattle.gd_cert.specs.declared.fault.CertFault.{CertFault}
+use Rattle.gd_check.proofs.Ends.{StaysOpen, on_before, going, none_stays, or_false, spent_fits, spent_grows, staying, stays_open}
+use Rattle.gd_check.proofs.Walk.{Fits, walked, walks}
 use Rattle.gd_check.specs.Right.{Branch, Leaf, Fork, Bud, AreBelow, IsForest, IsOpen, IsSearchedTo, lines_of}
-use Rattle.gd_check.specs.Wrong.{Kind, OfOpen, are_wrong_counts, is_decided, is_split, is_wrong_reason, line_code}
+use Rattle.gd_check.specs.Wrong.{Kind, OfOpen, are_wrong_counts, is_decided, is_split, is_wrong_reason, line_code, or_else, root_cells, wrong_body, wrong_line}
 use Rattle.gd_check.specs.Wrong as wrong
 use Rattle.gd_search.proofs.Counted.{left_below, left_in, left_in-append, left_under, none_left, total, total-add, total-first, total-none, total-same, spent_under, undecided_under}
 use Rattle.gd_search.proofs.Forest.{candidates_by_roots, cells_below}
-use Rattle.gd_search.proofs.Levels.{candidates, centres_are, is_left}
+use Rattle.gd_search.proofs.Levels.{centres_are, is_left}
 use Rattle.gd_search.proofs.Meant.{cell_at_path, low_level}
 use Rattle.gd_search.specs.Trees.{tree}
 use Rattle.gd_search.specs.Verdict.{IsVerdict, centres, end_at, end_with, spent, undecided}
@@ -412,3 +416,153 @@ fits_open q grid none budget level u s why nodes fits counts =
       end = open_verdict q grid budget level u s why low (counts.lefts ∙ lefts_are q grid none level nodes low is) (counts.splits ∙ splits_are q grid none level nodes low is) counts.affords counts.reasons counts.some
           (centres_fail q grid none level nodes low fits);
     }
+
+-- ---- from an open verdict to a right tree
+or_none : {X : Type 0} (a b : Option X) → option_or a b ≡ None → (a ≡ None) × (b ≡ None)
+or_none (Some x) b h = absurd cc
+or_none None b h = (refl, h)
+
+no_centre_parts : (q : Questions) (cs ds : List Cell) → no_centre q (cs ++ ds) → no_centre q cs × no_centre q ds
+unfolding no_centre
+no_centre_parts q cs ds h =
+    let e : find q.holds (map q.centre (filter (is_left q) (cs ++ ds))) ≡ option_or (find q.holds (map q.centre (filter (is_left q) cs))) (find q.holds (map q.centre (filter (is_left q) ds))) =
+    ap (λ es. find q.holds (map q.centre es)) (filter-append (is_left q) cs ds)
+    ∙ ap (find q.holds) (map-append q.centre (filter (is_left q) cs) (filter (is_left q) ds))
+    ∙ find-append q.holds (map q.centre (filter (is_left q) cs)) (map q.centre (filter (is_left q) ds)) in
+    or_none (find q.holds (map q.centre (filter (is_left q) cs))) (find q.holds (map q.centre (filter (is_left q) ds))) (sym e ∙ h)
+
+centre_fails : (q : Questions) (c : Cell) → q.first c ≡ None → no_centre q (c ∷ []) → q.holds (q.centre c) ≡ false
+unfolding no_centre
+centre_fails q c first h =
+    let e : find q.holds (q.centre c ∷ []) ≡ None = ap (λ v. find q.holds (map q.centre (cond v (c ∷ []) []))) (sym (still_left q c first)) ∙ h in
+    elim (q.holds (q.centre c)) as (λ v. cond v (Some (q.centre c)) None ≡ None → v ≡ false) [ true ↦ λ f. absurd cc | false ↦ λ f. refl ] e
+
+no_centre_in_halves : (q : Questions) (j r l p : ℕ) → q.first (cell_of q r l p) ≡ None → no_centre q (cells_below q (suc j) r l p) → no_centre q (cells_below q j r (suc l) (2 * p)) × no_centre q (cells_below q j r (suc l) (2 * p + 1))
+no_centre_in_halves q j r l p first h =
+    no_centre_parts q (cells_below q j r (suc l) (2 * p)) (cells_below q j r (suc l) (2 * p + 1))
+    (subst (λ v. no_centre q (cond v (cells_below q j r (suc l) (2 * p) ++ cells_below q j r (suc l) (2 * p + 1)) [])) (still_left q (cell_of q r l p) first) h)
+
+split_passes : (q : Questions) (last : ℕ) (c : Cell) → IsSplitCell q last c.level c → line_code q (OfOpen last) c node.Split ≡ None
+split_passes q last c is =
+    let a : nat_eq c.level q.finest ≡ false = grind (arith, nat_tests, is.above) in
+    let b : nat_le last c.level ≡ false = grind (arith, nat_tests, is.higher) in
+    rw (a, is.still.first, is.still.fails, b) refl
+
+left_passes : (q : Questions) (last : ℕ) (c : Cell) → IsLeftCell q last c.level c → line_code q (OfOpen last) c node.Left ≡ None
+left_passes q last c is =
+    let a : nat_eq c.level last ≡ true = grind (arith, nat_tests, is.level) in
+    rw (is.still.first, is.still.fails, a) refl
+
+split_stands : (q : Questions) (last r l p : ℕ) → IsSplitCell q last l (cell_of q r l p) → line_code q (OfOpen last) (cell_of q r l p) node.Split ≡ None
+split_stands q last r l p is = split_passes q last (cell_of q r l p) (subst (λ m. IsSplitCell q last m (cell_of q r l p)) (sym (level_at q.steps q.dims r l p)) is)
+
+left_stands : (q : Questions) (last r l p : ℕ) → IsLeftCell q last l (cell_of q r l p) → line_code q (OfOpen last) (cell_of q r l p) node.Left ≡ None
+left_stands q last r l p is = left_passes q last (cell_of q r l p) (subst (λ m. IsLeftCell q last m (cell_of q r l p)) (sym (level_at q.steps q.dims r l p)) is)
+
+fits_below : (q : Questions) (last : ℕ) (b : Branch) (r l p : ℕ) → last ≤ q.finest → IsSearchedTo q last r l p b → ((j : ℕ) → l + j ≤ last → no_centre q (cells_below q j r l p)) → Fits q (OfOpen last) r l p b
+fits_below q last (Leaf e) r l p deep is fails = rw is refl
+fits_below q last (Fork lower upper) r l p deep is fails =
+    let here : IsOpenCell q (cell_of q r l p) = record { first = is.1; fails = centre_fails q (cell_of q r l p) is.1 (fails 0 (omega (arith, is.0))) } in (
+      split_stands q last r l p (record { above = λ same. omega (arith, is.0, same); higher = is.0; still = here }),
+      fits_below q last lower r (suc l) (2 * p) deep is.2 (λ j low. (no_centre_in_halves q j r l p is.1 (fails (suc j) (omega arith))).0),
+      fits_below q last upper r (suc l) (2 * p + 1) deep is.3 (λ j low. (no_centre_in_halves q j r l p is.1 (fails (suc j) (omega arith))).1),
+    )
+fits_below q last Bud r l p deep is fails =
+    let here : IsOpenCell q (cell_of q r l p) = record { first = is.1; fails = centre_fails q (cell_of q r l p) is.1 (fails 0 (omega (arith, is.0))) } in
+    left_stands q last r l p (record { level = is.0; still = here })
+
+fits_roots : (q : Questions) (last : ℕ) (bs : List Branch) (a : ℕ) → last ≤ q.finest → AreBelow (λ root. IsSearchedTo q last root 0 0) a bs →
+    ((j : ℕ) → j ≤ last → no_centre q (flat_map (λ r. cells_below q j r 0 0) (count_from a (length bs)))) → AreBelow (λ root. Fits q (OfOpen last) root 0 0) a bs
+fits_roots q last [] a deep is fails = tt
+fits_roots q last (b ∷ bs) a deep is fails =
+    let more : ℕ → List Cell = λ j. flat_map (λ r. cells_below q j r 0 0) (count_from (a + 1) (length bs)) in (
+      fits_below q last b a 0 0 deep is.0 (λ j low. (no_centre_parts q (cells_below q j a 0 0) (more j) (fails j (omega arith))).0),
+      fits_roots q last bs (a + 1) deep is.1 (λ j low. (no_centre_parts q (cells_below q j a 0 0) (more j) (fails j low)).1),
+    )
+
+no_centre_of : (q : Questions) → IsGrid q → (m n : ℕ) → n ≡ q.roots → m ≤ q.finest → find q.holds (centres q m) ≡ None → no_centre q (flat_map (λ r. cells_below q m r 0 0) (count_from 1 n))
+unfolding no_centre
+no_centre_of q grid m n count low fails =
+    ap (λ k. find q.holds (map q.centre (filter (is_left q) (flat_map (λ r. cells_below q m r 0 0) (count_from 1 k))))) count
+    ∙ sym (ap (λ cs. find q.holds (map q.centre (filter (is_left q) cs))) (candidates_by_roots q grid m low))
+    ∙ sym (ap (find q.holds) (centres_are q grid m low))
+    ∙ fails
+
+fits : (q : Questions) → IsGrid q → (level : ℕ) (nodes : List Node) → level ≤ q.finest → Searched q level nodes → ((m : ℕ) → m ≤ level → find q.holds (centres q m) ≡ None) → FitsOpen q level nodes
+unfolding FitsOpen Searched
+fits q grid level nodes deep is fails = record {
+  branches = is.branches;
+  count = is.count;
+  below = fits_roots q level is.branches 1 deep is.below (λ j low. no_centre_of q grid j (length is.branches) is.count (omega arith) (fails j low));
+  spelled = is.spelled;
+}
+
+-- what an open verdict tells of its level, and of those before it
+record IsOpenAt (q : Questions) (budget level u s : ℕ) (why : Reason) : Type 0 where
+  low : level ≤ q.finest
+  lefts : u ≡ length (undecided q level)
+  splits : s ≡ spent q level
+  affords : s ≤ budget
+  reasons : is_wrong_reason q budget level u s why ≡ false
+  some : u ≢ 0
+  fails : (m : ℕ) → m ≤ level → find q.holds (centres q m) ≡ None
+
+fails_to : (q : Questions) (budget l : ℕ) → ((m : ℕ) → m < l → end_at q budget m ≡ None) → find q.holds (centres q l) ≡ None → (m : ℕ) → m ≤ l → find q.holds (centres q m) ≡ None
+fails_to q budget l before here m low = elim (cases_lt m l) [
+  | inl above ↦ (on_before q budget m (before m above)).fails
+  | inr there ↦ let same : l ≡ m = omega arith in subst (λ k. find q.holds (centres q k) ≡ None) same here
+]
+
+open_at_end : (q : Questions) (budget l u s : ℕ) (why : Reason) → ((m : ℕ) → m < l → end_at q budget m ≡ None) → StaysOpen q (find q.holds (centres q l)) (tree q l) l (length (undecided q l)) (spent q l) budget (tree q l) l u s why → IsOpenAt q budget l u s why
+open_at_end q budget l u s why before stays = record {
+  low = low_level q budget l before;
+  lefts = stays.same_undecided;
+  splits = stays.same_spent;
+  affords = omega (arith, spent_fits q budget l before, stays.same_spent);
+  reasons = rw (stays.same_undecided, stays.same_spent) stays.reasons;
+  some = λ zero_there. stays.some (sym stays.same_undecided ∙ zero_there);
+  fails = fails_to q budget l before stays.fails;
+}
+
+open_at : (q : Questions) (budget level u s : ℕ) (why : Reason) → IsVerdict q budget (verdict.Open (tree q level) level u s why) → IsOpenAt q budget level u s why
+unfolding end_at
+open_at q budget level u s why end =
+    let there : StaysOpen q (find q.holds (centres q end.0)) (tree q end.0) end.0 (length (undecided q end.0)) (spent q end.0) budget (tree q level) level u s why =
+    stays_open q (find q.holds (centres q end.0)) (tree q end.0) end.0 (length (undecided q end.0)) (spent q end.0) q.roots budget (tree q level) level u s why end.2 in
+    let same : end.0 ≡ level = sym there.same_level in
+    open_at_end q budget level u s why
+    (subst (λ l. (m : ℕ) → m < l → end_at q budget m ≡ None) same end.1)
+    (subst (λ l. StaysOpen q (find q.holds (centres q l)) (tree q l) l (length (undecided q l)) (spent q l) budget (tree q level) level u s why) same there)
+
+counts_of : (q : Questions) → IsGrid q → NoneRefutes q → (budget level u s : ℕ) (why : Reason) (nodes : List Node) → Searched q level nodes → IsOpenAt q budget level u s why → AreCounts q budget level u s why nodes
+counts_of q grid none budget level u s why nodes is there = record {
+  lefts = there.lefts ∙ sym (lefts_are q grid none level nodes there.low is);
+  splits = there.splits ∙ sym (splits_are q grid none level nodes there.low is);
+  affords = there.affords;
+  reasons = there.reasons;
+  some = there.some;
+}
+
+-- ---- the lines of an open group
+neither : (a b : Option CertFault) → or_else a b ≡ None → (a ≡ None) × (b ≡ None)
+neither (Some f) b h = absurd cc
+neither None b h = (refl, h)
+
+no_fault : (b : Bool) (f : CertFault) → cond b (Some f) None ≡ None → b ≡ false
+no_fault true f h = absurd cc
+no_fault false f h = refl
+
+pub open_right : (q : Questions) → IsGrid q → FirstRefutes q → NoneRefutes q → (budget level u s : ℕ) (why : Reason) (nodes : List Node) (line : ℕ) → wrong_body q budget line (Open level u s why nodes) ≡ None → IsOpen q budget level u s why nodes
+unfolding FitsOpen
+open_right q grid first none budget level u s why nodes line h =
+    let two = neither (wrong_line q (OfOpen level) (root_cells q) (line + 2) nodes) (cond (are_wrong_counts q budget level u s why nodes) (Some (fault (line + 1) 56)) None) h in
+    let counts : are_wrong_counts q budget level u s why nodes ≡ false = no_fault (are_wrong_counts q budget level u s why nodes) (fault (line + 1) 56) two.1 in
+    fits_open q grid none budget level u s why nodes (walks q grid (OfOpen level) (line + 2) nodes two.0) (counts_tell q budget level u s why nodes counts)
+
+pub right_open : (q : Questions) → IsGrid q → FirstRefutes q → NoneRefutes q → (budget level u s : ℕ) (why : Reason) (nodes : List Node) (line : ℕ) → IsOpen q budget level u s why nodes → wrong_body q budget line (Open level u s why nodes) ≡ None
+unfolding FitsOpen Searched
+right_open q grid first none budget level u s why nodes line is =
+    let there : IsOpenAt q budget level u s why = open_at q budget level u s why is.end in
+    let lines : wrong_line q (OfOpen level) (root_cells q) (line + 2) nodes ≡ None = walked q grid (OfOpen level) (line + 2) nodes (fits q grid level nodes there.low is.searched there.fails) in
+    let counts : are_wrong_counts q budget level u s why nodes ≡ false = counts_pass q budget level u s why nodes (counts_of q grid none budget level u s why nodes is.searched there) in
+    rw (lines, counts) refl
