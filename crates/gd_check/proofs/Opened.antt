@@ -19,6 +19,7 @@ use Rattle.gd_cells.specs.declared.node.Node.TheVariants as node
 use Rattle.gd_cert.specs.Certificates.{Open}
 use Rattle.gd_cert.specs.Reading.{fault}
 use Rattle.gd_cert.specs.declared.fault.CertFault.{CertFault}
+use Rattle.gd_check.proofs.Below.{IsPath, cell_of_path, half_path, halves_counted, halves_spent, has_first, here_counted, lower_path, none_counted, none_spent, nothing_below, root_path, still_left}
 use Rattle.gd_check.proofs.Ends.{StaysOpen, on_before, going, none_stays, or_false, spent_fits, spent_grows, staying, stays_open}
 use Rattle.gd_check.proofs.Walk.{Fits, walked, walks}
 use Rattle.gd_check.specs.Right.{Branch, Leaf, Fork, Bud, AreBelow, IsForest, IsOpen, IsSearchedTo, lines_of}
@@ -74,25 +75,7 @@ left_tells q last c h =
     let two = or_false (is_decided q c) (not (nat_eq c.level last)) one.0 in
     record { level = grind (arith, nat_tests, two.1); still = open_cell q c two.0 }
 
--- ---- the cells of a tree
-record IsPath (q : Questions) (r l p : ℕ) : Type 0 where
-  first : 1 ≤ r
-  last : r ≤ q.roots
-  low : l ≤ q.finest
-  within : p < 2 ^ l
-
-cell_of_path : (q : Questions) (r l p : ℕ) → IsPath q r l p → IsCell q (cell_of q r l p)
-cell_of_path q r l p path = cell_at_path q r l p path.first path.last path.low path.within
-
-half_path : (q : Questions) (r l p side : ℕ) → IsPath q r l p → l < q.finest → side < 2 → IsPath q r (suc l) (2 * p + side)
-half_path q r l p side path above small = record { first = path.first; last = path.last; low = omega arith; within = omega (arith, pow-suc 2 l, path.within) }
-
-lower_path : (q : Questions) (r l p : ℕ) → IsPath q r l p → l < q.finest → IsPath q r (suc l) (2 * p)
-lower_path q r l p path above = let e : 2 * p + 0 ≡ 2 * p = omega arith in subst (IsPath q r (suc l)) e (half_path q r l p 0 path above (omega arith))
-
-root_path : (q : Questions) (r : ℕ) → 1 ≤ r → r ≤ q.roots → IsPath q r 0 0
-root_path q r first last = record { first = first; last = last; low = omega arith; within = omega arith }
-
+-- ---- the same of a cell by its path
 split_at : (q : Questions) (last r l p : ℕ) → line_code q (OfOpen last) (cell_of q r l p) node.Split ≡ None → IsSplitCell q last l (cell_of q r l p)
 split_at q last r l p h = subst (λ m. IsSplitCell q last m (cell_of q r l p)) (level_at q.steps q.dims r l p) (split_tells q last (cell_of q r l p) h)
 
@@ -108,21 +91,6 @@ searched_below q last (Fork lower upper) r l p fits =
 searched_below q last Bud r l p fits =
     let here : IsLeftCell q last l (cell_of q r l p) = left_at q last r l p fits in
     (here.level, here.still.first)
-
--- ---- a cell that some evidence refutes has no undecided cell below it
-has_first : (q : Questions) → NoneRefutes q → (c : Cell) (e : Evidence) → IsCell q c → q.refuted c e ≡ true → is_left q c ≡ false
-has_first q none c e cell is =
-    elim (q.first c) as (λ v. q.first c ≡ v → is_none v ≡ false) [
-      | Some f ↦ λ h. refl
-      | None ↦ λ h. let no : q.refuted c e ≡ false = none c e cell h in absurd cc
-    ] refl
-
-still_left : (q : Questions) (c : Cell) → q.first c ≡ None → is_left q c ≡ true
-still_left q c h = rw h refl
-
-nothing_below : (q : Questions) (r l p : ℕ) → is_left q (cell_of q r l p) ≡ false → (j : ℕ) → filter (is_left q) (cells_below q j r l p) ≡ []
-nothing_below q r l p h zero = rw h refl
-nothing_below q r l p h (suc j) = rw h refl
 
 -- ---- no centre of an undecided cell holds
 no_centre : Questions → List Cell → Type 0
@@ -182,43 +150,6 @@ lefts-split xs ys = lefts-append xs ys
 splits-split : (xs ys : List Node) → splits_of (node.Split ∷ (xs ++ ys)) ≡ suc (splits_of xs + splits_of ys)
 unfolding splits_of
 splits-split xs ys = ap suc (splits-append xs ys)
-
-none_in : (q : Questions) (cs : List Cell) → filter (is_left q) cs ≡ [] → left_in q cs ≡ 0
-unfolding left_in
-none_in q cs h = rw h refl
-
-one_in : (q : Questions) (c : Cell) → is_left q c ≡ true → left_in q (c ∷ []) ≡ 1
-unfolding left_in
-one_in q c h = rw h refl
-
--- how many are undecided so many levels below a cell
-none_counted : (q : Questions) (r l p : ℕ) → is_left q (cell_of q r l p) ≡ false → (j : ℕ) → left_below q r l p j ≡ 0
-unfolding left_below
-none_counted q r l p h j = none_in q (cells_below q j r l p) (nothing_below q r l p h j)
-
-here_counted : (q : Questions) (r l p : ℕ) → is_left q (cell_of q r l p) ≡ true → left_below q r l p 0 ≡ 1
-unfolding left_below
-here_counted q r l p h = one_in q (cell_of q r l p) h
-
-halves_counted : (q : Questions) (r l p : ℕ) → is_left q (cell_of q r l p) ≡ true → (j : ℕ) → left_below q r l p (suc j) ≡ left_below q r (suc l) (2 * p) j + left_below q r (suc l) (2 * p + 1) j
-unfolding left_below
-halves_counted q r l p h j = rw h (left_in-append q (cells_below q j r (suc l) (2 * p)) (cells_below q j r (suc l) (2 * p + 1)))
-
--- and above that level
-none_spent : (q : Questions) (r l p : ℕ) → is_left q (cell_of q r l p) ≡ false → (j : ℕ) → total (left_below q r l p) j ≡ 0
-none_spent q r l p h j = total-same (left_below q r l p) (λ i. 0) j (λ i low. none_counted q r l p h i) ∙ total-none j
-
-halves_spent : (q : Questions) (r l p : ℕ) → is_left q (cell_of q r l p) ≡ true → (j : ℕ) → total (left_below q r l p) (suc j) ≡ suc (total (left_below q r (suc l) (2 * p)) j + total (left_below q r (suc l) (2 * p + 1)) j)
-halves_spent q r l p h j =
-    let lower : ℕ → ℕ = left_below q r (suc l) (2 * p) in
-    let upper : ℕ → ℕ = left_below q r (suc l) (2 * p + 1) in
-    omega (
-      arith,
-      total-first (left_below q r l p) j,
-      here_counted q r l p h,
-      total-same (λ i. left_below q r l p (suc i)) (λ i. lower i + upper i) j (λ i low. halves_counted q r l p h i),
-      total-add lower upper j,
-    )
 
 lefts_below : (q : Questions) → NoneRefutes q → (last : ℕ) (b : Branch) (r l p : ℕ) → IsPath q r l p → last ≤ q.finest → IsSearchedTo q last r l p b → (d : ℕ) → l + d ≡ last → lefts_of (lines_of b) ≡ left_below q r l p d
 unfolding lefts_of
