@@ -11,16 +11,20 @@ use Rattle.gd_cells.specs.declared.cell.Evidence.{Evidence}
 use Rattle.gd_cells.specs.declared.cell.Witness.{Witness}
 use Rattle.gd_cells.specs.declared.node.Node.{Node}
 use Rattle.gd_cells.specs.declared.node.Node.TheVariants as node
-use Rattle.gd_cert.specs.Bounds.{IsDecided, NodeFits, WitnessFits}
+use Rattle.gd_cert.specs.Bounds.{BodyFits, CountsFit, IsDecided, NodeFits, WitnessFits}
+use Rattle.gd_cert.specs.Certificates.{Body, Accept, Reject}
+use Rattle.gd_cert.specs.Certificates as certificates
 use Rattle.gd_check.proofs.Below.{IsPath, cell_of_path, half_path, halves_counted, halves_spent, here_counted, lower_path, none_spent, root_path, still_left}
-use Rattle.gd_check.specs.Right.{AreBelow, Branch, Leaf, Fork, Bud, IsAccepted, IsForest, IsRefutedBy, IsSearchedTo, lines_of, witness_of}
+use Rattle.gd_check.proofs.Ends.{spent_fits, stays_open, StaysOpen, undecided_fits}
+use Rattle.gd_check.specs.Right.{AreBelow, Branch, Leaf, Fork, Bud, IsAccepted, IsForest, IsOpen, IsRefutedBy, IsRejected, IsSearchedTo, lines_of, witness_of}
+use Rattle.gd_check.specs.Written.{VerdictIsRight, body_of_end}
 use Rattle.gd_search.proofs.Counted.{left_below, left_in, left_in-append, left_under, none_left, total, total-add, total-none, total-same, spent_under, undecided_under}
 use Rattle.gd_search.proofs.Forest.{cells_below}
 use Rattle.gd_search.proofs.Levels.{all_cons, all_nil, is_left}
-use Rattle.gd_search.proofs.Meant.{accepts}
+use Rattle.gd_search.proofs.Meant.{accepts, low_level, rejected_is}
 use Rattle.gd_search.specs.Outcomes.{IsShown}
 use Rattle.gd_search.specs.Trees.{last_line, tree, tree_below, with_halves}
-use Rattle.gd_search.specs.Verdict.{Accepted, IsVerdict, spent, undecided}
+use Rattle.gd_search.specs.Verdict.{Accepted, Rejected, Open, End, IsVerdict, centres, end_at, end_with, spent, undecided}
 
 -- ---- an accepted witness
 whole : (q : Questions) (w : Witness) → q.numbers ≤ 12 → length w.at ≡ 12 → NamesPlace q w → witness_of w.root (take q.numbers w.at) ≡ w
@@ -110,3 +114,142 @@ refuted_below q refutes (suc depth) r l p path deep empty =
             refuted_below q refutes depth r (suc l) (2 * p + 1) (half_path q r l p 1 path above (omega arith)) (omega arith) (omega (arith, both)),
           )
     ] refl
+
+-- ---- the branches below all roots
+branches : Questions → ℕ → ℕ → ℕ → List Branch
+branches q level a n = map (λ r. branch_below q level r 0 0) (count_from a n)
+
+counted_roots : (q : Questions) (level a n : ℕ) → length (branches q level a n) ≡ n
+unfolding branches
+counted_roots q level a zero = refl
+counted_roots q level a (suc n) = ap suc (counted_roots q level (a + 1) n)
+
+spelled_roots : (q : Questions) (level a n : ℕ) → flat_map (λ r. tree_below q level r 0 0) (count_from a n) ≡ flat_map lines_of (branches q level a n)
+unfolding branches
+spelled_roots q level a zero = refl
+spelled_roots q level a (suc n) =
+    ap (λ lines. lines ++ flat_map (λ r. tree_below q level r 0 0) (count_from (a + 1) n)) (spelled_below q level a 0 0)
+    ∙ ap (λ lines. lines_of (branch_below q level a 0 0) ++ lines) (spelled_roots q level (a + 1) n)
+
+searched_roots : (q : Questions) → FirstRefutes q → (level a n : ℕ) → 1 ≤ a → a + n ≤ suc q.roots → level ≤ q.finest → AreBelow (λ root. IsSearchedTo q level root 0 0) a (branches q level a n)
+unfolding branches
+searched_roots q refutes level a zero first few deep = tt
+searched_roots q refutes level a (suc n) first few deep =
+    (searched_below q refutes level level a 0 0 (root_path q a first (omega arith)) (omega arith) deep, searched_roots q refutes level (a + 1) n (omega arith) (omega arith) deep)
+
+-- no cell is undecided under the first of some roots, nor under the others
+none_each_root : (q : Questions) (level a n : ℕ) → left_under q a (suc n) level ≡ 0 → (left_below q a 0 0 level ≡ 0) × (left_under q (a + 1) n level ≡ 0)
+unfolding left_under left_below
+none_each_root q level a n empty =
+    let both : left_in q (cells_below q level a 0 0) + left_in q (flat_map (λ r. cells_below q level r 0 0) (count_from (a + 1) n)) ≡ 0 =
+    sym (left_in-append q (cells_below q level a 0 0) (flat_map (λ r. cells_below q level r 0 0) (count_from (a + 1) n))) ∙ empty in
+    (omega (arith, both), omega (arith, both))
+
+refuted_roots : (q : Questions) → FirstRefutes q → (level a n : ℕ) → 1 ≤ a → a + n ≤ suc q.roots → level ≤ q.finest → left_under q a n level ≡ 0 → AreBelow (λ root. IsRefutedBy q root 0 0) a (branches q level a n)
+unfolding branches
+refuted_roots q refutes level a zero first few deep empty = tt
+refuted_roots q refutes level a (suc n) first few deep empty =
+    let two = none_each_root q level a n empty in
+    (refuted_below q refutes level a 0 0 (root_path q a first (omega arith)) (omega arith) two.0, refuted_roots q refutes level (a + 1) n (omega arith) (omega arith) deep two.1)
+
+tree_searched : (q : Questions) → FirstRefutes q → (level : ℕ) → level ≤ q.finest → IsForest q.roots (λ root. IsSearchedTo q level root 0 0) (tree q level)
+unfolding tree
+tree_searched q refutes level deep = record {
+  branches = branches q level 1 q.roots;
+  count = counted_roots q level 1 q.roots;
+  below = searched_roots q refutes level 1 q.roots (omega arith) (omega arith) deep;
+  spelled = spelled_roots q level 1 q.roots;
+}
+
+tree_refuted : (q : Questions) → IsGrid q → FirstRefutes q → (level : ℕ) → level ≤ q.finest → length (undecided q level) ≡ 0 → IsRejected q (tree q level)
+unfolding tree
+tree_refuted q grid refutes level deep empty = record {
+  branches = branches q level 1 q.roots;
+  count = counted_roots q level 1 q.roots;
+  below = refuted_roots q refutes level 1 q.roots (omega arith) (omega arith) deep (sym (undecided_under q grid level deep) ∙ empty);
+  spelled = spelled_roots q level 1 q.roots;
+}
+
+-- ---- the lines of the tree can be written
+fit_below : (q : Questions) → FirstIsShort q → (depth r l p : ℕ) → IsPath q r l p → l + depth ≤ q.finest → All NodeFits (tree_below q depth r l p)
+fit_below q short zero r l p path deep =
+    elim (q.first (cell_of q r l p)) as (λ v. q.first (cell_of q r l p) ≡ v → All NodeFits (last_line v ∷ [])) [
+      | Some e ↦ λ is. all_cons NodeFits (node.Refuted e) [] (short (cell_of q r l p) e (cell_of_path q r l p path) is) (all_nil NodeFits)
+      | None ↦ λ is. all_cons NodeFits node.Left [] tt (all_nil NodeFits)
+    ] refl
+fit_below q short (suc depth) r l p path deep =
+    let lower : List Node = tree_below q depth r (suc l) (2 * p) in
+    let upper : List Node = tree_below q depth r (suc l) (2 * p + 1) in
+    let low : All NodeFits (tree_below q depth r (suc l) (2 * p)) = fit_below q short depth r (suc l) (2 * p) (lower_path q r l p path (omega arith)) (omega arith) in
+    let high : All NodeFits (tree_below q depth r (suc l) (2 * p + 1)) = fit_below q short depth r (suc l) (2 * p + 1) (half_path q r l p 1 path (omega arith) (omega arith)) (omega arith) in
+    elim (q.first (cell_of q r l p)) as (λ v. q.first (cell_of q r l p) ≡ v → All NodeFits (with_halves v (tree_below q depth r (suc l) (2 * p) ++ tree_below q depth r (suc l) (2 * p + 1)))) [
+      | Some e ↦ λ is. all_cons NodeFits (node.Refuted e) [] (short (cell_of q r l p) e (cell_of_path q r l p path) is) (all_nil NodeFits)
+      | None ↦ λ is. all_cons NodeFits node.Split (lower ++ upper) tt (All-append NodeFits lower upper low high)
+    ] refl
+
+fit_roots : (q : Questions) → FirstIsShort q → (level a n : ℕ) → 1 ≤ a → a + n ≤ suc q.roots → level ≤ q.finest → All NodeFits (flat_map (λ r. tree_below q level r 0 0) (count_from a n))
+fit_roots q short level a zero first few deep = all_nil NodeFits
+fit_roots q short level a (suc n) first few deep =
+    All-append NodeFits (tree_below q level a 0 0) (flat_map (λ r. tree_below q level r 0 0) (count_from (a + 1) n))
+    (fit_below q short level a 0 0 (root_path q a first (omega arith)) (omega arith))
+    (fit_roots q short level (a + 1) n (omega arith) (omega arith) deep)
+
+tree_fits : (q : Questions) → FirstIsShort q → (level : ℕ) → level ≤ q.finest → All NodeFits (tree q level)
+unfolding tree
+tree_fits q short level deep = fit_roots q short level 1 q.roots (omega arith) (omega arith) deep
+
+decided_below : (q : Questions) (depth r l p : ℕ) → left_below q r l p depth ≡ 0 → All IsDecided (tree_below q depth r l p)
+decided_below q zero r l p empty =
+    elim (q.first (cell_of q r l p)) as (λ v. q.first (cell_of q r l p) ≡ v → All IsDecided (last_line v ∷ [])) [
+      | Some e ↦ λ is. all_cons IsDecided (node.Refuted e) [] tt (all_nil IsDecided)
+      | None ↦ λ is. absurd (omega (arith, here_counted q r l p (still_left q (cell_of q r l p) is), empty))
+    ] refl
+decided_below q (suc depth) r l p empty =
+    let lower : List Node = tree_below q depth r (suc l) (2 * p) in
+    let upper : List Node = tree_below q depth r (suc l) (2 * p + 1) in
+    elim (q.first (cell_of q r l p)) as (λ v. q.first (cell_of q r l p) ≡ v → All IsDecided (with_halves v (tree_below q depth r (suc l) (2 * p) ++ tree_below q depth r (suc l) (2 * p + 1)))) [
+      | Some e ↦ λ is. all_cons IsDecided (node.Refuted e) [] tt (all_nil IsDecided)
+      | None ↦ λ is.
+          let both : left_below q r (suc l) (2 * p) depth + left_below q r (suc l) (2 * p + 1) depth ≡ 0 = sym (halves_counted q r l p (still_left q (cell_of q r l p) is) depth) ∙ empty in
+          all_cons IsDecided node.Split (lower ++ upper) tt
+          (All-append IsDecided lower upper (decided_below q depth r (suc l) (2 * p) (omega (arith, both))) (decided_below q depth r (suc l) (2 * p + 1) (omega (arith, both))))
+    ] refl
+
+decided_roots : (q : Questions) (level a n : ℕ) → left_under q a n level ≡ 0 → All IsDecided (flat_map (λ r. tree_below q level r 0 0) (count_from a n))
+decided_roots q level a zero empty = all_nil IsDecided
+decided_roots q level a (suc n) empty =
+    let two = none_each_root q level a n empty in
+    All-append IsDecided (tree_below q level a 0 0) (flat_map (λ r. tree_below q level r 0 0) (count_from (a + 1) n)) (decided_below q level a 0 0 two.0) (decided_roots q level (a + 1) n two.1)
+
+tree_decided : (q : Questions) → IsGrid q → (level : ℕ) → level ≤ q.finest → length (undecided q level) ≡ 0 → All IsDecided (tree q level)
+unfolding tree
+tree_decided q grid level deep empty = decided_roots q level 1 q.roots (sym (undecided_under q grid level deep) ∙ empty)
+
+-- ---- how many lines there are: each split gives two more
+long_below : (q : Questions) (depth r l p : ℕ) → length (tree_below q depth r l p) ≡ 2 * total (left_below q r l p) depth + 1
+long_below q zero r l p = refl
+long_below q (suc depth) r l p =
+    let lower : List Node = tree_below q depth r (suc l) (2 * p) in
+    let upper : List Node = tree_below q depth r (suc l) (2 * p + 1) in
+    elim (q.first (cell_of q r l p)) as (λ v. q.first (cell_of q r l p) ≡ v → length (with_halves v (tree_below q depth r (suc l) (2 * p) ++ tree_below q depth r (suc l) (2 * p + 1))) ≡ 2 * total (left_below q r l p) (suc depth) + 1) [
+      | Some e ↦ λ is. let gone : is_left q (cell_of q r l p) ≡ false = rw is refl in omega (arith, none_spent q r l p gone (suc depth))
+      | None ↦ λ is. omega (arith, length-append lower upper, halves_spent q r l p (still_left q (cell_of q r l p) is) depth, long_below q depth r (suc l) (2 * p), long_below q depth r (suc l) (2 * p + 1))
+    ] refl
+
+long_roots : (q : Questions) (level a n : ℕ) → length (flat_map (λ r. tree_below q level r 0 0) (count_from a n)) ≡ 2 * total (left_under q a n) level + n
+unfolding left_under left_below
+long_roots q level a zero = omega (arith, total-same (left_under q a 0) (λ j. 0) level (λ j h. none_left q), total-none level)
+long_roots q level a (suc n) =
+    let more : ℕ → ℕ = λ j. left_in q (flat_map (λ r. cells_below q j r 0 0) (count_from (a + 1) n)) in
+    omega (
+      arith,
+      length-append (tree_below q level a 0 0) (flat_map (λ r. tree_below q level r 0 0) (count_from (a + 1) n)),
+      long_below q level a 0 0,
+      long_roots q level (a + 1) n,
+      total-same (left_under q a (suc n)) (λ j. left_in q (cells_below q j a 0 0) + more j) level (λ j h. left_in-append q (cells_below q j a 0 0) (flat_map (λ r. cells_below q j r 0 0) (count_from (a + 1) n))),
+      total-add (λ j. left_in q (cells_below q j a 0 0)) more level,
+    )
+
+tree_long : (q : Questions) → IsGrid q → (level : ℕ) → level ≤ q.finest → length (tree q level) ≡ 2 * spent q level + q.roots
+unfolding tree
+tree_long q grid level deep = omega (arith, long_roots q level 1 q.roots, spent_under q grid level (omega arith))
