@@ -124,6 +124,22 @@ staying q lines l u s roots budget reason.Budget some reasons =
     let c : nat_lt budget (s + u) ≡ true = grind (arith, nat_tests, two.0) in
     rw (a, two.1, c) refl
 
+-- ---- a level at which it rejects
+pub record Rejects (lines : List Node) (u : ℕ) (tree : List Node) : Type 0 where
+  pub empty : u ≡ 0
+  pub same_tree : tree ≡ lines
+
+pub rejects_at : (h : Option Witness) (lines : List Node) (l u s roots finest budget leaves : ℕ) (tree : List Node) → end_with h lines l u s roots finest budget ≡ Some (Rejected leaves tree) → Rejects lines u tree
+rejects_at (Some w) lines l u s roots finest budget leaves tree e = absurd cc
+rejects_at None lines l u s roots finest budget leaves tree e =
+    elim (nat_eq u 0) as (λ a. nat_eq u 0 ≡ a → cond a (Some (Rejected (s + roots) lines)) (cond (nat_eq l finest) (Some (Open lines l u s reason.Floor)) (cond (nat_lt budget (s + u)) (Some (Open lines l u s reason.Budget)) None)) ≡ Some (Rejected leaves tree) → Rejects lines u tree) [
+      | true ↦ λ a f. record { empty = grind (arith, nat_tests); same_tree = cc }
+      | false ↦ λ a. elim (nat_eq l finest) as (λ b. cond b (Some (Open lines l u s reason.Floor)) (cond (nat_lt budget (s + u)) (Some (Open lines l u s reason.Budget)) None) ≡ Some (Rejected leaves tree) → Rejects lines u tree) [
+        | true ↦ λ f. absurd cc
+        | false ↦ elim (nat_lt budget (s + u)) as (λ c. cond c (Some (Open lines l u s reason.Budget)) None ≡ Some (Rejected leaves tree) → Rejects lines u tree) [ true ↦ λ f. absurd cc | false ↦ λ f. absurd cc ]
+      ]
+    ] refl e
+
 -- ---- what the levels before a level have spent
 pub on_before : (q : Questions) (budget l : ℕ) → end_at q budget l ≡ None → GoesOn (find q.holds (centres q l)) l (length (undecided q l)) (spent q l) q.finest budget
 unfolding end_at
