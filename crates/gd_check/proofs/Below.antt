@@ -1,5 +1,5 @@
 -- What stands below a cell: the cells that its halves are, and how many of them are undecided.
-use Rattle.std.proofs.Common.{arith, ◌≡◌, refl, ◌∙◌, subst, ℕ, zero, suc, ◌+◌, ◌*◌, ◌^◌, ◌<◌, ◌≤◌, true, false, Some, None, is_none, pow-suc, List, [], ◌∷◌, ◌++◌, filter}
+use Rattle.std.proofs.Common.{arith, ◌≡◌, refl, ◌∙◌, subst, ℕ, zero, suc, ◌+◌, ◌*◌, ◌^◌, ◌<◌, ◌≤◌, true, false, Some, None, is_none, pow-suc, List, [], ◌∷◌, filter}
 use Rattle.gd_cells.specs.Laws.{NoneRefutes}
 use Rattle.gd_cells.specs.Meaning.{IsCell, Questions, cell_of}
 use Rattle.gd_cells.specs.declared.cell.Cell.{Cell}

@@ -1,5 +1,5 @@
 -- The lines of an open group are right exactly where its tree, its counts and its reason are those of the open verdict.
-use Rattle.std.proofs.Common.{arith, ◌≡◌, ◌≢◌, refl, sym, ap, ◌∙◌, subst, ℕ, zero, suc, ◌+◌, ◌*◌, ◌^◌, ◌<◌, ◌≤◌, Bool, true, false, not, ◌||◌, Option, Some, None, is_none, is_some, cond, nat_le, nat_lt, nat_eq, pow-suc, inl, inr, List, [], ◌∷◌, ◌++◌, length, map, filter, find}
+use Rattle.std.proofs.Common.{arith, ◌≡◌, ◌≢◌, refl, sym, ap, ◌∙◌, subst, ℕ, zero, suc, ◌+◌, ◌*◌, ◌<◌, ◌≤◌, Bool, true, false, not, ◌||◌, Option, Some, None, is_some, cond, nat_le, nat_lt, nat_eq, inl, inr, List, [], ◌∷◌, ◌++◌, length, map, filter, find}
 use Rattle.std.proofs.lemmas.Bool.{cases_lt}
 use Rattle.std.proofs.lemmas.Bool.Decides.{nat_tests}
 use Rattle.std.proofs.lemmas.List.{length-append, map-append}
@@ -8,10 +8,9 @@ use Rattle.std.proofs.lemmas.List.Folds.{find-append}
 use Rattle.std.specs.List.{flat_map}
 use Rattle.std.specs.Option.{option_or}
 use Rattle.gd_base.specs.declared.verdict.Reason.{Reason}
-use Rattle.gd_cells.proofs.Cells.{level_at}
 use Rattle.gd_cells.specs.Grid.{count_from}
 use Rattle.gd_cells.specs.Laws.{FirstRefutes, IsGrid, NoneRefutes}
-use Rattle.gd_cells.specs.Meaning.{IsCell, Questions, cell_of}
+use Rattle.gd_cells.specs.Meaning.{Questions, cell_of}
 use Rattle.gd_cells.specs.declared.cell.Cell.{Cell}
 use Rattle.gd_cells.specs.declared.cell.Evidence.{Evidence}
 use Rattle.gd_cells.specs.declared.node.Node.{Node}
@@ -20,15 +19,14 @@ use Rattle.gd_cert.specs.Certificates.{Open}
 use Rattle.gd_cert.specs.Reading.{fault}
 use Rattle.gd_cert.specs.declared.fault.CertFault.{CertFault}
 use Rattle.gd_check.proofs.Below.{IsPath, cell_of_path, half_path, halves_counted, halves_spent, has_first, here_counted, lower_path, none_counted, none_spent, nothing_below, root_path, still_left}
-use Rattle.gd_check.proofs.Ends.{StaysOpen, on_before, going, none_stays, or_false, spent_fits, spent_grows, staying, stays_open}
-use Rattle.gd_check.proofs.Walk.{Fits, walked, walks}
+use Rattle.gd_check.proofs.Ends.{IsOpenAt, going, none_stays, open_at, or_false, spent_grows, staying}
+use Rattle.gd_check.proofs.Walk.{Fits, level_of, walked, walks}
 use Rattle.gd_check.specs.Right.{Branch, Leaf, Fork, Bud, AreBelow, IsForest, IsOpen, IsSearchedTo, lines_of}
 use Rattle.gd_check.specs.Wrong.{Kind, OfOpen, are_wrong_counts, is_decided, is_split, is_wrong_reason, line_code, or_else, root_cells, wrong_body, wrong_line}
 use Rattle.gd_check.specs.Wrong as wrong
-use Rattle.gd_search.proofs.Counted.{left_below, left_in, left_in-append, left_under, none_left, total, total-add, total-first, total-none, total-same, spent_under, undecided_under}
+use Rattle.gd_search.proofs.Counted.{left_below, left_in, left_in-append, left_under, none_left, total, total-add, total-none, total-same, spent_under, undecided_under}
 use Rattle.gd_search.proofs.Forest.{candidates_by_roots, cells_below}
 use Rattle.gd_search.proofs.Levels.{centres_are, is_left}
-use Rattle.gd_search.proofs.Meant.{cell_at_path, low_level}
 use Rattle.gd_search.specs.Trees.{tree}
 use Rattle.gd_search.specs.Verdict.{IsVerdict, centres, end_at, end_with, spent, undecided}
 use Rattle.gd_search.specs.Verdict as verdict
@@ -77,10 +75,10 @@ left_tells q last c h =
 
 -- ---- the same of a cell by its path
 split_at : (q : Questions) (last r l p : ℕ) → line_code q (OfOpen last) (cell_of q r l p) node.Split ≡ None → IsSplitCell q last l (cell_of q r l p)
-split_at q last r l p h = subst (λ m. IsSplitCell q last m (cell_of q r l p)) (level_at q.steps q.dims r l p) (split_tells q last (cell_of q r l p) h)
+split_at q last r l p h = subst (λ m. IsSplitCell q last m (cell_of q r l p)) (level_of q r l p) (split_tells q last (cell_of q r l p) h)
 
 left_at : (q : Questions) (last r l p : ℕ) → line_code q (OfOpen last) (cell_of q r l p) node.Left ≡ None → IsLeftCell q last l (cell_of q r l p)
-left_at q last r l p h = subst (λ m. IsLeftCell q last m (cell_of q r l p)) (level_at q.steps q.dims r l p) (left_tells q last (cell_of q r l p) h)
+left_at q last r l p h = subst (λ m. IsLeftCell q last m (cell_of q r l p)) (level_of q r l p) (left_tells q last (cell_of q r l p) h)
 
 -- ---- the tree goes down to the level
 searched_below : (q : Questions) (last : ℕ) (b : Branch) (r l p : ℕ) → Fits q (OfOpen last) r l p b → IsSearchedTo q last r l p b
@@ -385,10 +383,10 @@ left_passes q last c is =
     rw (is.still.first, is.still.fails, a) refl
 
 split_stands : (q : Questions) (last r l p : ℕ) → IsSplitCell q last l (cell_of q r l p) → line_code q (OfOpen last) (cell_of q r l p) node.Split ≡ None
-split_stands q last r l p is = split_passes q last (cell_of q r l p) (subst (λ m. IsSplitCell q last m (cell_of q r l p)) (sym (level_at q.steps q.dims r l p)) is)
+split_stands q last r l p is = split_passes q last (cell_of q r l p) (subst (λ m. IsSplitCell q last m (cell_of q r l p)) (sym (level_of q r l p)) is)
 
 left_stands : (q : Questions) (last r l p : ℕ) → IsLeftCell q last l (cell_of q r l p) → line_code q (OfOpen last) (cell_of q r l p) node.Left ≡ None
-left_stands q last r l p is = left_passes q last (cell_of q r l p) (subst (λ m. IsLeftCell q last m (cell_of q r l p)) (sym (level_at q.steps q.dims r l p)) is)
+left_stands q last r l p is = left_passes q last (cell_of q r l p) (subst (λ m. IsLeftCell q last m (cell_of q r l p)) (sym (level_of q r l p)) is)
 
 fits_below : (q : Questions) (last : ℕ) (b : Branch) (r l p : ℕ) → last ≤ q.finest → IsSearchedTo q last r l p b → ((j : ℕ) → l + j ≤ last → no_centre q (cells_below q j r l p)) → Fits q (OfOpen last) r l p b
 fits_below q last (Leaf e) r l p deep is fails = rw is refl
@@ -428,44 +426,7 @@ fits q grid level nodes deep is fails = record {
   spelled = is.spelled;
 }
 
--- what an open verdict tells of its level, and of those before it
-record IsOpenAt (q : Questions) (budget level u s : ℕ) (why : Reason) : Type 0 where
-  low : level ≤ q.finest
-  lefts : u ≡ length (undecided q level)
-  splits : s ≡ spent q level
-  affords : s ≤ budget
-  reasons : is_wrong_reason q budget level u s why ≡ false
-  some : u ≢ 0
-  fails : (m : ℕ) → m ≤ level → find q.holds (centres q m) ≡ None
-
-fails_to : (q : Questions) (budget l : ℕ) → ((m : ℕ) → m < l → end_at q budget m ≡ None) → find q.holds (centres q l) ≡ None → (m : ℕ) → m ≤ l → find q.holds (centres q m) ≡ None
-fails_to q budget l before here m low = elim (cases_lt m l) [
-  | inl above ↦ (on_before q budget m (before m above)).fails
-  | inr there ↦ let same : l ≡ m = omega arith in subst (λ k. find q.holds (centres q k) ≡ None) same here
-]
-
-open_at_end : (q : Questions) (budget l u s : ℕ) (why : Reason) → ((m : ℕ) → m < l → end_at q budget m ≡ None) → StaysOpen q (find q.holds (centres q l)) (tree q l) l (length (undecided q l)) (spent q l) budget (tree q l) l u s why → IsOpenAt q budget l u s why
-open_at_end q budget l u s why before stays = record {
-  low = low_level q budget l before;
-  lefts = stays.same_undecided;
-  splits = stays.same_spent;
-  affords = omega (arith, spent_fits q budget l before, stays.same_spent);
-  reasons = rw (stays.same_undecided, stays.same_spent) stays.reasons;
-  some = λ zero_there. stays.some (sym stays.same_undecided ∙ zero_there);
-  fails = fails_to q budget l before stays.fails;
-}
-
-open_at : (q : Questions) (budget level u s : ℕ) (why : Reason) → IsVerdict q budget (verdict.Open (tree q level) level u s why) → IsOpenAt q budget level u s why
-unfolding end_at
-open_at q budget level u s why end =
-    let there : StaysOpen q (find q.holds (centres q end.0)) (tree q end.0) end.0 (length (undecided q end.0)) (spent q end.0) budget (tree q level) level u s why =
-    stays_open q (find q.holds (centres q end.0)) (tree q end.0) end.0 (length (undecided q end.0)) (spent q end.0) q.roots budget (tree q level) level u s why end.2 in
-    let same : end.0 ≡ level = sym there.same_level in
-    open_at_end q budget level u s why
-    (subst (λ l. (m : ℕ) → m < l → end_at q budget m ≡ None) same end.1)
-    (subst (λ l. StaysOpen q (find q.holds (centres q l)) (tree q l) l (length (undecided q l)) (spent q l) budget (tree q level) level u s why) same there)
-
-counts_of : (q : Questions) → IsGrid q → NoneRefutes q → (budget level u s : ℕ) (why : Reason) (nodes : List Node) → Searched q level nodes → IsOpenAt q budget level u s why → AreCounts q budget level u s why nodes
+counts_of : (q : Questions) → IsGrid q → NoneRefutes q → (budget level u s : ℕ) (why : Reason) (nodes : List Node) → Searched q level nodes → IsOpenAt q budget (tree q level) level u s why → AreCounts q budget level u s why nodes
 counts_of q grid none budget level u s why nodes is there = record {
   lefts = there.lefts ∙ sym (lefts_are q grid none level nodes there.low is);
   splits = there.splits ∙ sym (splits_are q grid none level nodes there.low is);
@@ -493,7 +454,7 @@ open_right q grid first none budget level u s why nodes line h =
 pub right_open : (q : Questions) → IsGrid q → FirstRefutes q → NoneRefutes q → (budget level u s : ℕ) (why : Reason) (nodes : List Node) (line : ℕ) → IsOpen q budget level u s why nodes → wrong_body q budget line (Open level u s why nodes) ≡ None
 unfolding FitsOpen Searched
 right_open q grid first none budget level u s why nodes line is =
-    let there : IsOpenAt q budget level u s why = open_at q budget level u s why is.end in
+    let there : IsOpenAt q budget (tree q level) level u s why = open_at q grid budget (tree q level) level u s why is.end in
     let lines : wrong_line q (OfOpen level) (root_cells q) (line + 2) nodes ≡ None = walked q grid (OfOpen level) (line + 2) nodes (fits q grid level nodes there.low is.searched there.fails) in
     let counts : are_wrong_counts q budget level u s why nodes ≡ false = counts_pass q budget level u s why nodes (counts_of q grid none budget level u s why nodes is.searched there) in
     rw (lines, counts) refl

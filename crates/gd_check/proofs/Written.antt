@@ -1,30 +1,28 @@
 -- What a search leaves is right, and can be written.
-use Rattle.std.proofs.Common.{arith, ◌≡◌, refl, sym, ap, ◌∙◌, subst, ℕ, zero, suc, ◌+◌, ◌-◌, ◌*◌, ◌^◌, ◌<◌, ◌≤◌, true, false, Option, Some, None, is_none, cond, find, List, [], ◌∷◌, ◌++◌, length, map, take, drop, replicate, ℤ, pos, unsigned_abs}
+use Rattle.std.proofs.Common.{arith, ◌≡◌, refl, sym, ap, ◌∙◌, subst, ℕ, zero, suc, ◌+◌, ◌-◌, ◌*◌, ◌^◌, ◌<◌, ◌≤◌, false, Option, Some, None, List, [], ◌∷◌, ◌++◌, length, map, take, replicate, pos, unsigned_abs}
 use Rattle.std.proofs.lemmas.List.{length-append, length-take-le, take-append-drop}
 use Rattle.std.proofs.lemmas.List.Elements.{All-append, All-take}
 use Rattle.std.specs.List.{All, flat_map}
 use Rattle.gd_base.specs.declared.verdict.Reason.{Reason}
 use Rattle.gd_cells.specs.Grid.{count_from}
 use Rattle.gd_cells.specs.Laws.{CentreInRange, CentreNamesPlace, FirstIsShort, FirstRefutes, IsGrid, NamesPlace}
-use Rattle.gd_cells.specs.Meaning.{IsCell, Questions, cell_of}
+use Rattle.gd_cells.specs.Meaning.{Questions, cell_of}
 use Rattle.gd_cells.specs.declared.cell.Evidence.{Evidence}
 use Rattle.gd_cells.specs.declared.cell.Witness.{Witness}
 use Rattle.gd_cells.specs.declared.node.Node.{Node}
 use Rattle.gd_cells.specs.declared.node.Node.TheVariants as node
-use Rattle.gd_cert.specs.Bounds.{BodyFits, CountsFit, IsDecided, NodeFits, WitnessFits}
-use Rattle.gd_cert.specs.Certificates.{Body, Accept, Reject}
-use Rattle.gd_cert.specs.Certificates as certificates
+use Rattle.gd_cert.specs.Bounds.{CountsFit, IsDecided, NodeFits, WitnessFits}
 use Rattle.gd_check.proofs.Below.{IsPath, cell_of_path, half_path, halves_counted, halves_spent, here_counted, lower_path, none_spent, root_path, still_left}
-use Rattle.gd_check.proofs.Ends.{Rejects, StaysOpen, rejects_at, spent_fits, stays_open, undecided_fits}
+use Rattle.gd_check.proofs.Ends.{IsOpenAt, IsRejectedAt, open_at, rejected_at}
 use Rattle.gd_check.specs.Right.{AreBelow, Branch, Leaf, Fork, Bud, IsAccepted, IsForest, IsOpen, IsRefutedBy, IsRejected, IsSearchedTo, lines_of, witness_of}
 use Rattle.gd_check.specs.Written.{VerdictIsRight, body_of_end, tree_of}
 use Rattle.gd_search.proofs.Counted.{left_below, left_in, left_in-append, left_under, none_left, total, total-add, total-none, total-same, spent_under, undecided_under}
 use Rattle.gd_search.proofs.Forest.{cells_below}
 use Rattle.gd_search.proofs.Levels.{all_cons, all_nil, is_left}
-use Rattle.gd_search.proofs.Meant.{accepts, low_level}
+use Rattle.gd_search.proofs.Meant.{accepts}
 use Rattle.gd_search.specs.Outcomes.{IsShown}
 use Rattle.gd_search.specs.Trees.{last_line, tree, tree_below, with_halves}
-use Rattle.gd_search.specs.Verdict.{Accepted, Rejected, Open, End, IsVerdict, centres, end_at, end_with, spent, undecided}
+use Rattle.gd_search.specs.Verdict.{Accepted, Rejected, Open, End, IsVerdict, spent, undecided}
 
 -- ---- an accepted witness
 whole : (q : Questions) (w : Witness) → q.numbers ≤ 12 → length w.at ≡ 12 → NamesPlace q w → witness_of w.root (take q.numbers w.at) ≡ w
@@ -107,8 +105,7 @@ refuted_below q refutes (suc depth) r l p path deep empty =
     elim (q.first (cell_of q r l p)) as (λ v. q.first (cell_of q r l p) ≡ v → IsRefutedBy q r l p (with_branches v (branch_below q depth r (suc l) (2 * p)) (branch_below q depth r (suc l) (2 * p + 1)))) [
       | Some e ↦ λ is. refutes (cell_of q r l p) e (cell_of_path q r l p path) is
       | None ↦ λ is.
-          let both : left_below q r (suc l) (2 * p) depth + left_below q r (suc l) (2 * p + 1) depth ≡ 0 = sym (halves_counted q r l p (still_left q (cell_of q r l p) is) depth) ∙ empty in
-          (
+          let both : left_below q r (suc l) (2 * p) depth + left_below q r (suc l) (2 * p + 1) depth ≡ 0 = sym (halves_counted q r l p (still_left q (cell_of q r l p) is) depth) ∙ empty in (
             above,
             refuted_below q refutes depth r (suc l) (2 * p) (lower_path q r l p path above) (omega arith) (omega (arith, both)),
             refuted_below q refutes depth r (suc l) (2 * p + 1) (half_path q r l p 1 path above (omega arith)) (omega arith) (omega (arith, both)),
@@ -254,54 +251,17 @@ tree_long : (q : Questions) → IsGrid q → (level : ℕ) → level ≤ q.fines
 unfolding tree
 tree_long q grid level deep = omega (arith, long_roots q level 1 q.roots, spent_under q grid level (omega arith))
 
--- ---- a rejected group
-record IsRejectedAt (q : Questions) (budget : ℕ) (lines : List Node) : Type 0 where
-  level : ℕ
-  low : level ≤ q.finest
-  empty : length (undecided q level) ≡ 0
-  affords : spent q level ≤ budget
-  same : lines ≡ tree q level
-
-rejected_at : (q : Questions) (budget leaves : ℕ) (lines : List Node) → IsVerdict q budget (Rejected leaves lines) → IsRejectedAt q budget lines
-unfolding end_at
-rejected_at q budget leaves lines is =
-    let there : Rejects (tree q is.0) (length (undecided q is.0)) lines = rejects_at (find q.holds (centres q is.0)) (tree q is.0) is.0 (length (undecided q is.0)) (spent q is.0) q.roots q.finest budget leaves lines is.2 in
-    record { level = is.0; low = low_level q budget is.0 is.1; empty = there.empty; affords = spent_fits q budget is.0 is.1; same = there.same_tree }
-
 -- ---- an open group
-record IsOpenAt (q : Questions) (budget : ℕ) (lines : List Node) (level u s : ℕ) : Type 0 where
-  low : level ≤ q.finest
-  lefts : u ≤ 2 * budget + 4
-  affords : s ≤ budget
-  splits : s ≡ spent q level
-  same : lines ≡ tree q level
-
-open_at_end : (q : Questions) → IsGrid q → (budget l : ℕ) (lines : List Node) (level u s : ℕ) (why : Reason) → ((m : ℕ) → m < l → end_at q budget m ≡ None) →
-    StaysOpen q (find q.holds (centres q l)) (tree q l) l (length (undecided q l)) (spent q l) budget lines level u s why → IsOpenAt q budget lines level u s
-open_at_end q grid budget l lines level u s why before there = record {
-  low = omega (arith, there.same_level, low_level q budget l before);
-  lefts = omega (arith, there.same_undecided, undecided_fits q grid budget l before);
-  affords = omega (arith, there.same_spent, spent_fits q budget l before);
-  splits = there.same_spent ∙ ap (spent q) (sym there.same_level);
-  same = there.same_tree ∙ ap (tree q) (sym there.same_level);
-}
-
-open_at : (q : Questions) → IsGrid q → (budget : ℕ) (lines : List Node) (level u s : ℕ) (why : Reason) → IsVerdict q budget (Open lines level u s why) → IsOpenAt q budget lines level u s
-unfolding end_at
-open_at q grid budget lines level u s why is =
-    open_at_end q grid budget is.0 lines level u s why is.1
-    (stays_open q (find q.holds (centres q is.0)) (tree q is.0) is.0 (length (undecided q is.0)) (spent q is.0) q.roots budget lines level u s why is.2)
-
-open_right : (q : Questions) → FirstRefutes q → (budget : ℕ) (lines : List Node) (level u s : ℕ) (why : Reason) → IsVerdict q budget (Open lines level u s why) → IsOpenAt q budget lines level u s → IsOpen q budget level u s why lines
+open_right : (q : Questions) → FirstRefutes q → (budget : ℕ) (lines : List Node) (level u s : ℕ) (why : Reason) → IsVerdict q budget (Open lines level u s why) → IsOpenAt q budget lines level u s why → IsOpen q budget level u s why lines
 open_right q refutes budget lines level u s why is there = record {
   searched = subst (IsForest q.roots (λ root. IsSearchedTo q level root 0 0)) (sym there.same) (tree_searched q refutes level there.low);
   end = subst (λ t. IsVerdict q budget (Open t level u s why)) there.same is;
 }
 
-counts_fit : (q : Questions) → IsGrid q → (budget : ℕ) (lines : List Node) (level u s : ℕ) → budget ≤ 1000000 → IsOpenAt q budget lines level u s → CountsFit level u s
-counts_fit q grid budget lines level u s few there = record {
+counts_fit : (q : Questions) → IsGrid q → (budget : ℕ) (lines : List Node) (level u s : ℕ) (why : Reason) → budget ≤ 1000000 → IsOpenAt q budget lines level u s why → CountsFit level u s
+counts_fit q grid budget lines level u s why few there = record {
   level_fits = omega (arith, there.low, grid.few_levels);
-  undecided_fits = omega (arith, there.lefts);
+  undecided_fits = omega (arith, there.few);
   spent_fits = omega (arith, there.affords);
 }
 
@@ -310,16 +270,14 @@ pub verdict_is_right : (q : Questions) → IsGrid q → FirstRefutes q → First
 verdict_is_right q grid refutes short central places some budget (Accepted w level) few room is =
     (accept_right q grid central places budget w level room is, accept_fits q grid central places some budget w level room is)
 verdict_is_right q grid refutes short central places some budget (Rejected leaves lines) few room is =
-    let there : IsRejectedAt q budget lines = rejected_at q budget leaves lines is in
-    (
+    let there : IsRejectedAt q budget lines = rejected_at q budget leaves lines is in (
       subst (IsRejected q) (sym there.same) (tree_refuted q grid refutes there.level there.low there.empty),
       (subst (All NodeFits) (sym there.same) (tree_fits q short there.level there.low), subst (All IsDecided) (sym there.same) (tree_decided q grid there.level there.low there.empty)),
     )
 verdict_is_right q grid refutes short central places some budget (Open lines level u s why) few room is =
-    let there : IsOpenAt q budget lines level u s = open_at q grid budget lines level u s why is in
-    (
+    let there : IsOpenAt q budget lines level u s why = open_at q grid budget lines level u s why is in (
       open_right q refutes budget lines level u s why is there,
-      (counts_fit q grid budget lines level u s few there, subst (All NodeFits) (sym there.same) (tree_fits q short level there.low)),
+      (counts_fit q grid budget lines level u s why few there, subst (All NodeFits) (sym there.same) (tree_fits q short level there.low)),
     )
 
 -- its tree has two lines for each split, and one for each root
@@ -329,7 +287,7 @@ tree_is_bounded q grid budget (Rejected leaves lines) is =
     let there : IsRejectedAt q budget lines = rejected_at q budget leaves lines is in
     omega (arith, ap length there.same, tree_long q grid there.level there.low, there.affords, grid.few_roots)
 tree_is_bounded q grid budget (Open lines level u s why) is =
-    let there : IsOpenAt q budget lines level u s = open_at q grid budget lines level u s why is in
+    let there : IsOpenAt q budget lines level u s why = open_at q grid budget lines level u s why is in
     omega (arith, ap length there.same, tree_long q grid level there.low, there.affords, there.splits, grid.few_roots)
 
 pub tree_is_short : (q : Questions) → IsGrid q → (budget : ℕ) (e : End) → budget ≤ 1000000 → IsVerdict q budget e → length (tree_of (body_of_end q e)) ≤ 2 * 1000000 + 4
