@@ -1,3 +1,4 @@
+pub mod Waiting
 pub mod Walk
 pub mod Opened
 pub mod Groups
