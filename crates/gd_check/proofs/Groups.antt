@@ -11,7 +11,8 @@ use Rattle.gd_cert.specs.Certificates.{Body, Accept, Reject, Open}
 use Rattle.gd_cert.specs.Reading.{fault}
 use Rattle.gd_cert.specs.declared.fault.CertFault.{CertFault}
 use Rattle.gd_check.proofs.Opened.{open_right, right_open}
-use Rattle.gd_check.proofs.Walk.{Fits, above_split, level_of, walked, walks}
+use Rattle.gd_check.proofs.Waiting.{level_of}
+use Rattle.gd_check.proofs.Walk.{Fits, above_split, walked, walks}
 use Rattle.gd_check.specs.Right.{AreBelow, Branch, Leaf, Fork, Bud, IsAccepted, IsForest, IsRefutedBy, IsRejected, IsRightBody, witness_of}
 use Rattle.gd_check.specs.Wrong.{OfReject, is_placed, wrong_body}
 

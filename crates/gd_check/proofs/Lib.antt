@@ -1,3 +1,4 @@
+pub mod Waiting
 pub mod Walk
 pub mod Below
 pub mod Ends

@@ -1,10 +1,9 @@
 -- Lines against the cells that wait for them: no line is wrong where they are those of a tree below each root, each fit for its cell.
-use Rattle.std.proofs.Common.{arith, ◌≡◌, refl, sym, ap, ◌∙◌, ℕ, zero, suc, ◌+◌, ◌*◌, ◌<◌, ◌≤◌, true, false, cond, nat_eq, Option, Some, None, List, [], ◌∷◌, ◌++◌, length, map, append_assoc}
-use Rattle.std.proofs.lemmas.Bool.Decides.{nat_tests}
+use Rattle.std.proofs.Common.{arith, ◌≡◌, refl, sym, ap, ◌∙◌, ℕ, zero, suc, ◌+◌, ◌*◌, ◌<◌, ◌≤◌, Option, Some, None, List, [], ◌∷◌, ◌++◌, length, map, append_assoc}
 use Rattle.std.proofs.lemmas.List.{length-append}
 use Rattle.std.specs.List.{flat_map}
 use Rattle.gd_cells.proofs.Cells.{halves_at, root_at}
-use Rattle.gd_cells.specs.Grid.{cell_at, count_from}
+use Rattle.gd_cells.specs.Grid.{count_from}
 use Rattle.gd_cells.specs.Halves.{halves, whole_root}
 use Rattle.gd_cells.specs.Laws.{IsGrid}
 use Rattle.gd_cells.specs.Meaning.{Questions, cell_of}
@@ -12,8 +11,9 @@ use Rattle.gd_cells.specs.declared.cell.Cell.{Cell}
 use Rattle.gd_cells.specs.declared.node.Node.{Node}
 use Rattle.gd_cells.specs.declared.node.Node.TheVariants.{Split, Refuted, Left}
 use Rattle.gd_cert.specs.declared.fault.CertFault.{CertFault}
+use Rattle.gd_check.proofs.Waiting.{above_cell, level_of}
 use Rattle.gd_check.specs.Right.{AreBelow, Branch, Leaf, Fork, Bud, IsForest, lines_of}
-use Rattle.gd_check.specs.Wrong.{Kind, is_wrong_split, line_code, root_cells, with_code, wrong_line}
+use Rattle.gd_check.specs.Wrong.{Kind, line_code, root_cells, with_code, wrong_line}
 
 -- no line of the tree below a cell has a code
 abbrev pub Fits : Questions → Kind → ℕ → ℕ → ℕ → Branch → Type 0
@@ -22,17 +22,8 @@ Fits q kind r l p (Fork lower upper) = (line_code q kind (cell_of q r l p) Split
 Fits q kind r l p Bud = line_code q kind (cell_of q r l p) Left ≡ None
 
 -- ---- one line
-pub level_of : (q : Questions) (r l p : ℕ) → (cell_of q r l p).level ≡ l
-unfolding cell_at
-level_of q r l p = refl
-
 pub above_split : (q : Questions) (kind : Kind) (r l p : ℕ) → l ≤ q.finest → line_code q kind (cell_of q r l p) Split ≡ None → l < q.finest
-above_split q kind r l p low h =
-    let e : (cell_of q r l p).level ≡ l = level_of q r l p in
-    elim (nat_eq (cell_of q r l p).level q.finest) as (λ v. nat_eq (cell_of q r l p).level q.finest ≡ v → cond {A = Option ℕ} v (Some 57) (cond (is_wrong_split q kind (cell_of q r l p)) (Some 56) None) ≡ None → l < q.finest) [
-      | true ↦ λ is f. cc
-      | false ↦ λ is f. grind (arith, nat_tests)
-    ] refl h
+above_split q kind r l p low h = omega (arith, level_of q r l p, above_cell q kind (cell_of q r l p) (omega (arith, level_of q r l p)) h)
 
 -- the two cells that wait in place of one that is halved
 halves_wait : (q : Questions) → IsGrid q → (kind : Kind) (r l p : ℕ) → l < q.finest → (cells : List Cell) (line : ℕ) (nodes : List Node) →
