@@ -8,6 +8,7 @@ use Rattle.std.proofs.lemmas.List.Folds.{find-append}
 use Rattle.std.specs.List.{flat_map}
 use Rattle.std.specs.Option.{option_or}
 use Rattle.gd_base.specs.declared.verdict.Reason.{Reason}
+use Rattle.gd_cells.proofs.Cells.{level_at}
 use Rattle.gd_cells.specs.Grid.{count_from}
 use Rattle.gd_cells.specs.Laws.{FirstRefutes, IsGrid, NoneRefutes}
 use Rattle.gd_cells.specs.Meaning.{Questions, cell_of}
@@ -20,7 +21,7 @@ use Rattle.gd_cert.specs.Reading.{fault}
 use Rattle.gd_cert.specs.declared.fault.CertFault.{CertFault}
 use Rattle.gd_check.proofs.Below.{IsPath, cell_of_path, half_path, halves_counted, halves_spent, has_first, here_counted, lower_path, none_counted, none_spent, nothing_below, root_path, still_left}
 use Rattle.gd_check.proofs.Ends.{IsOpenAt, going, none_stays, open_at, or_false, spent_grows, staying}
-use Rattle.gd_check.proofs.Walk.{Fits, level_of, walked, walks}
+use Rattle.gd_check.proofs.Walk.{Fits, walked, walks}
 use Rattle.gd_check.specs.Right.{Branch, Leaf, Fork, Bud, AreBelow, IsForest, IsOpen, IsSearchedTo, lines_of}
 use Rattle.gd_check.specs.Wrong.{Kind, OfOpen, are_wrong_counts, is_decided, is_split, is_wrong_reason, line_code, or_else, root_cells, wrong_body, wrong_line}
 use Rattle.gd_check.specs.Wrong as wrong
@@ -75,10 +76,10 @@ left_tells q last c h =
 
 -- ---- the same of a cell by its path
 split_at : (q : Questions) (last r l p : ℕ) → line_code q (OfOpen last) (cell_of q r l p) node.Split ≡ None → IsSplitCell q last l (cell_of q r l p)
-split_at q last r l p h = subst (λ m. IsSplitCell q last m (cell_of q r l p)) (level_of q r l p) (split_tells q last (cell_of q r l p) h)
+split_at q last r l p h = subst (λ m. IsSplitCell q last m (cell_of q r l p)) (level_at q.steps q.dims r l p) (split_tells q last (cell_of q r l p) h)
 
 left_at : (q : Questions) (last r l p : ℕ) → line_code q (OfOpen last) (cell_of q r l p) node.Left ≡ None → IsLeftCell q last l (cell_of q r l p)
-left_at q last r l p h = subst (λ m. IsLeftCell q last m (cell_of q r l p)) (level_of q r l p) (left_tells q last (cell_of q r l p) h)
+left_at q last r l p h = subst (λ m. IsLeftCell q last m (cell_of q r l p)) (level_at q.steps q.dims r l p) (left_tells q last (cell_of q r l p) h)
 
 -- ---- the tree goes down to the level
 searched_below : (q : Questions) (last : ℕ) (b : Branch) (r l p : ℕ) → Fits q (OfOpen last) r l p b → IsSearchedTo q last r l p b
@@ -383,10 +384,10 @@ left_passes q last c is =
     rw (is.still.first, is.still.fails, a) refl
 
 split_stands : (q : Questions) (last r l p : ℕ) → IsSplitCell q last l (cell_of q r l p) → line_code q (OfOpen last) (cell_of q r l p) node.Split ≡ None
-split_stands q last r l p is = split_passes q last (cell_of q r l p) (subst (λ m. IsSplitCell q last m (cell_of q r l p)) (sym (level_of q r l p)) is)
+split_stands q last r l p is = split_passes q last (cell_of q r l p) (subst (λ m. IsSplitCell q last m (cell_of q r l p)) (sym (level_at q.steps q.dims r l p)) is)
 
 left_stands : (q : Questions) (last r l p : ℕ) → IsLeftCell q last l (cell_of q r l p) → line_code q (OfOpen last) (cell_of q r l p) node.Left ≡ None
-left_stands q last r l p is = left_passes q last (cell_of q r l p) (subst (λ m. IsLeftCell q last m (cell_of q r l p)) (sym (level_of q r l p)) is)
+left_stands q last r l p is = left_passes q last (cell_of q r l p) (subst (λ m. IsLeftCell q last m (cell_of q r l p)) (sym (level_at q.steps q.dims r l p)) is)
 
 fits_below : (q : Questions) (last : ℕ) (b : Branch) (r l p : ℕ) → last ≤ q.finest → IsSearchedTo q last r l p b → ((j : ℕ) → l + j ≤ last → no_centre q (cells_below q j r l p)) → Fits q (OfOpen last) r l p b
 fits_below q last (Leaf e) r l p deep is fails = rw is refl
