@@ -3,3 +3,4 @@ pub mod Wrong
 pub mod Means
 pub mod Answers
 pub mod Written
+pub mod Rules

@@ -3,6 +3,10 @@
 
 mod answer;
 mod decide;
+mod group;
+mod rule;
+mod tree;
 
 pub use answer::CheckAnswer;
 pub use decide::check;
+pub use rule::Rule;
