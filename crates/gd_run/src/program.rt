@@ -140,7 +140,8 @@ pub fn run<R: Threads + Sync, S: Shelf, O: Sink>(
         → Prints (IsInvalid (map string_bytes words.now.items) (S.holds shelf.old)) (O.written out.old) (O.written out.new) }
 
     // What a verdict stored as its certificate is valid for the points as they were read.
-    ensures stored { S.tells ≡ true → result.0 ≤ 2 → StoresValid (map string_bytes words.now.items) (S.holds shelf.old) (S.holds shelf.new) }
+    ensures stored { S.tells ≡ true → O.tells ≡ true → result.0 ≤ 2
+        → StoresValid (map string_bytes words.now.items) (S.holds shelf.old) (S.holds shelf.new) }
 
     // Status 4 comes exactly where the words are of no command and the put was done.
     ensures four { result.0 ≡ 4 → IsNoCommand (map string_bytes words.now.items) }

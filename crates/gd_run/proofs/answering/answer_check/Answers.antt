@@ -21,7 +21,7 @@ returns-in-Ok-clause-answer g c = λ s.
     let held : old command.points ≡ _ = c.in-Ok.ensures.bytes s in
     let answered : OnReport (λ r. IsCheckAnswerOfTable command mid (points bytes) (answer_in r)) (λ w. IsOk (points bytes)) c.check_points.result = rw c.as_slice.ensures.value at (c.check_points.ensures.answer s) in
     weaker_report (λ (r : Report). IsCheckAnswerOfTable command mid (points bytes) (answer_in r) × IsCheckKind r) (λ r. IsAnswerTo (ForCheck command) old (answer_in r))
-        (λ w. IsOk (points bytes) × (w ≡ command.certificate)) (λ w. IsToLoad (ForCheck command) old w) c.check_points.result
-        (λ r is. check_answer command old bytes held c.in-Ok.ensures.short (answer_in r) (moved_answer command old mid c.in-Ok.ensures.same (points bytes) (answer_in r) is.0))
-        (λ w is. inr (is.1, has_table old command.points bytes held is.0))
-        (both_reports (λ (r : Report). IsCheckAnswerOfTable command mid (points bytes) (answer_in r)) IsCheckKind (λ w. IsOk (points bytes)) (λ w. w ≡ command.certificate) c.check_points.result answered c.check_points.ensures.kind)
+    (λ w. IsOk (points bytes) × (w ≡ command.certificate)) (λ w. IsToLoad (ForCheck command) old w) c.check_points.result
+    (λ r is. check_answer command old bytes held c.in-Ok.ensures.short (answer_in r) (moved_answer command old mid c.in-Ok.ensures.same (points bytes) (answer_in r) is.0))
+    (λ w is. inr (is.1, has_table old command.points bytes held is.0))
+    (both_reports (λ (r : Report). IsCheckAnswerOfTable command mid (points bytes) (answer_in r)) IsCheckKind (λ w. IsOk (points bytes)) (λ w. w ≡ command.certificate) c.check_points.result answered c.check_points.ensures.kind)
