@@ -4,3 +4,4 @@ pub mod Opened
 pub mod Groups
 pub mod Wholes
 pub mod Meant
+pub mod Rests
