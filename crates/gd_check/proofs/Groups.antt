@@ -2,6 +2,7 @@
 use Rattle.std.proofs.Common.{arith, ◌≡◌, refl, sym, ap, ◌∙◌, ℕ, zero, suc, ◌+◌, ◌*◌, ◌-◌, ◌<◌, ◌≤◌, Bool, true, false, ◌&&◌, cond, nat_eq, Option, Some, None, List, [], ◌∷◌, ◌++◌, length, ℤ}
 use Rattle.std.proofs.lemmas.Bool.Decides.{nat_tests}
 use Rattle.gd_base.specs.declared.verdict.Reason.{Reason}
+use Rattle.gd_cells.proofs.Cells.{level_at}
 use Rattle.gd_cells.specs.Laws.{FirstRefutes, IsGrid, NoneRefutes}
 use Rattle.gd_cells.specs.Meaning.{Questions, cell_of}
 use Rattle.gd_cells.specs.declared.cell.Cell.{Cell}
@@ -11,7 +12,6 @@ use Rattle.gd_cert.specs.Certificates.{Body, Accept, Reject, Open}
 use Rattle.gd_cert.specs.Reading.{fault}
 use Rattle.gd_cert.specs.declared.fault.CertFault.{CertFault}
 use Rattle.gd_check.proofs.Opened.{open_right, right_open}
-use Rattle.gd_check.proofs.Waiting.{level_of}
 use Rattle.gd_check.proofs.Walk.{Fits, above_split, walked, walks}
 use Rattle.gd_check.specs.Right.{AreBelow, Branch, Leaf, Fork, Bud, IsAccepted, IsForest, IsRefutedBy, IsRejected, IsRightBody, witness_of}
 use Rattle.gd_check.specs.Wrong.{OfReject, is_placed, wrong_body}
@@ -38,7 +38,7 @@ refutes false h = cc
 splits : (q : Questions) (r l p : ℕ) → l < q.finest → cond {A = Option ℕ} (nat_eq (cell_of q r l p).level q.finest) (Some 57) None ≡ None
 splits q r l p above =
     let e : nat_eq l q.finest ≡ false = grind (arith, nat_tests) in
-    rw (level_of q r l p, e) refl
+    rw (level_at q.steps q.dims r l p, e) refl
 
 fits_refuted : (q : Questions) (r l p : ℕ) (b : Branch) → l ≤ q.finest → Fits q OfReject r l p b → IsRefutedBy q r l p b
 fits_refuted q r l p (Leaf e) low h = refutes (q.refuted (cell_of q r l p) e) h

@@ -7,3 +7,4 @@ pub mod Written
 pub mod Groups
 pub mod Wholes
 pub mod Meant
+pub mod Rests

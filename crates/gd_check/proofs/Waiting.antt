@@ -4,24 +4,20 @@ use Rattle.std.proofs.lemmas.Bool.Decides.{nat_tests}
 use Rattle.std.proofs.lemmas.List.{length-reverse, reverse-append}
 use Rattle.std.proofs.lemmas.List.Elements.{All-push}
 use Rattle.std.specs.List.{All}
-use Rattle.gd_cells.proofs.Cells.{root_is_cell}
-use Rattle.gd_cells.specs.Grid.{cell_at, count_from}
+use Rattle.gd_cells.proofs.Cells.{level_at, root_is_cell}
+use Rattle.gd_cells.specs.Grid.{count_from}
 use Rattle.gd_cells.specs.Halves.{whole_root}
 use Rattle.gd_cells.specs.Laws.{IsGrid}
-use Rattle.gd_cells.specs.Meaning.{IsCell, Questions, cell_of}
+use Rattle.gd_cells.specs.Meaning.{IsCell, Questions}
 use Rattle.gd_cells.specs.declared.cell.Cell.{Cell}
 use Rattle.gd_cells.specs.declared.node.Node.{Node}
 use Rattle.gd_cells.specs.declared.node.Node.TheVariants.{Split}
 use Rattle.gd_cert.specs.Reading.{fault}
 use Rattle.gd_check.specs.Wrong.{Kind, is_wrong_split, line_code, waiting_after, wrong_line}
 
-pub level_of : (q : Questions) (r l p : ℕ) → (cell_of q r l p).level ≡ l
-unfolding cell_at
-level_of q r l p = refl
-
 -- a cell lies no deeper than the last level, and above it where it may be halved
 pub low_cell : (q : Questions) (c : Cell) → IsCell q c → c.level ≤ q.finest
-low_cell q c cell = omega (arith, ap (λ (d : Cell). d.level) cell.same ∙ level_of q cell.root cell.level cell.path, cell.deepest)
+low_cell q c cell = omega (arith, ap (λ (d : Cell). d.level) cell.same ∙ level_at q.steps q.dims cell.root cell.level cell.path, cell.deepest)
 
 pub above_cell : (q : Questions) (kind : Kind) (c : Cell) → c.level ≤ q.finest → line_code q kind c Split ≡ None → c.level < q.finest
 above_cell q kind c low h =

@@ -2,7 +2,7 @@
 use Rattle.std.proofs.Common.{arith, ◌≡◌, refl, sym, ap, ◌∙◌, ℕ, zero, suc, ◌+◌, ◌*◌, ◌<◌, ◌≤◌, Option, Some, None, List, [], ◌∷◌, ◌++◌, length, map, append_assoc}
 use Rattle.std.proofs.lemmas.List.{length-append}
 use Rattle.std.specs.List.{flat_map}
-use Rattle.gd_cells.proofs.Cells.{halves_at, root_at}
+use Rattle.gd_cells.proofs.Cells.{halves_at, level_at, root_at}
 use Rattle.gd_cells.specs.Grid.{count_from}
 use Rattle.gd_cells.specs.Halves.{halves, whole_root}
 use Rattle.gd_cells.specs.Laws.{IsGrid}
@@ -11,7 +11,7 @@ use Rattle.gd_cells.specs.declared.cell.Cell.{Cell}
 use Rattle.gd_cells.specs.declared.node.Node.{Node}
 use Rattle.gd_cells.specs.declared.node.Node.TheVariants.{Split, Refuted, Left}
 use Rattle.gd_cert.specs.declared.fault.CertFault.{CertFault}
-use Rattle.gd_check.proofs.Waiting.{above_cell, level_of}
+use Rattle.gd_check.proofs.Waiting.{above_cell}
 use Rattle.gd_check.specs.Right.{AreBelow, Branch, Leaf, Fork, Bud, IsForest, lines_of}
 use Rattle.gd_check.specs.Wrong.{Kind, line_code, root_cells, with_code, wrong_line}
 
@@ -23,7 +23,7 @@ Fits q kind r l p Bud = line_code q kind (cell_of q r l p) Left ≡ None
 
 -- ---- one line
 pub above_split : (q : Questions) (kind : Kind) (r l p : ℕ) → l ≤ q.finest → line_code q kind (cell_of q r l p) Split ≡ None → l < q.finest
-above_split q kind r l p low h = omega (arith, level_of q r l p, above_cell q kind (cell_of q r l p) (omega (arith, level_of q r l p)) h)
+above_split q kind r l p low h = omega (arith, level_at q.steps q.dims r l p, above_cell q kind (cell_of q r l p) (omega (arith, level_at q.steps q.dims r l p)) h)
 
 -- the two cells that wait in place of one that is halved
 halves_wait : (q : Questions) → IsGrid q → (kind : Kind) (r l p : ℕ) → l < q.finest → (cells : List Cell) (line : ℕ) (nodes : List Node) →

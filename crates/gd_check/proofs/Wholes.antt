@@ -9,8 +9,11 @@ use Rattle.gd_cert.specs.Reading.{fault}
 use Rattle.gd_cert.specs.Text.{body_lines}
 use Rattle.gd_cert.specs.declared.fault.CertFault.{CertFault}
 use Rattle.gd_check.proofs.Groups.{Keeps, body_right, both_are, right_body}
+use Rattle.gd_check.specs.Answers.{answer_of}
 use Rattle.gd_check.specs.Right.{AreRightBodies, IsRight}
 use Rattle.gd_check.specs.Wrong.{are_counted, first_wrong, or_else, wrong_bodies, wrong_body}
+use Rattle.gd_check.specs.declared.answer.CheckAnswer.{CheckAnswer}
+use Rattle.gd_check.specs.declared.answer.CheckAnswer.TheVariants.{Valid, Invalid}
 
 -- ---- the groups
 neither : (f next : Option CertFault) → or_else f next ≡ None → (f ≡ None) × (next ≡ None)
@@ -60,5 +63,10 @@ right_certificate qs keeps c h =
     let t : nat_eq c.told (length qs) ≡ true = grind (arith, nat_tests) in
     rw (e, t) (right_bodies qs keeps c.share 5 c.groups h.groups)
 
-pub right_exactly : (qs : List Questions) → All Keeps qs → (c : Certificate) → (first_wrong qs c ≡ None) ↔ IsRight qs c
-right_exactly qs keeps c = (certificate_right qs keeps c, right_certificate qs keeps c)
+-- ---- the answer that tells it
+answers_valid : (a : CheckAnswer) → answer_of a ≡ None → a ≡ Valid
+answers_valid Valid h = refl
+answers_valid (Invalid line code) h = cc
+
+pub valid_exactly : (qs : List Questions) → All Keeps qs → (c : Certificate) (a : CheckAnswer) → answer_of a ≡ first_wrong qs c → (a ≡ Valid) ↔ IsRight qs c
+valid_exactly qs keeps c a h = (λ is. certificate_right qs keeps c (sym h ∙ ap answer_of is), λ right. answers_valid a (h ∙ right_certificate qs keeps c right))

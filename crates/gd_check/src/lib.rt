@@ -5,6 +5,8 @@ mod answer;
 mod decide;
 mod group;
 mod rule;
+#[cfg(test)]
+mod tests;
 mod tree;
 
 pub use answer::CheckAnswer;

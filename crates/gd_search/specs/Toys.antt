@@ -1,4 +1,4 @@
--- The two tasks of the tests. Both have two roots and one coordinate.
+-- The two tasks of the tests. Both have two roots and one coordinate; a witness of the first has a second number.
 use Rattle.std.proofs.Common.{arith, ◌≡◌, ◌≤◌, ◌+◌, refl, subst, ◌^◌, ◌<◌, unsigned_abs, ℕ, zero, suc, Bool, true, false, ◌&&◌, ◌||◌, ◌==◌, if◌then◌else◌, cond, Some, None, nat_le, nat_eq, int_le, ℤ, pos, List, replicate, slice_set, slice_index_or, inl}
 use Rattle.std.proofs.lemmas.List.Elements.{All-cons, All-replicate}
 use Rattle.std.specs.List.{All}
@@ -26,7 +26,7 @@ abbrev pub toy : Bool → ℕ → ℤ → Questions
 toy shows depth least = record {
   roots = 2;
   dims = 1;
-  numbers = 1;
+  numbers = 2;
   finest = 3;
   steps = λ l. 0;
   first = λ c. cond shows None (cond (ends depth c) (Some (evidence_of c)) None);

@@ -65,7 +65,7 @@ impl Task for Toy {
     }
 
     fn numbers(&self) -> u32 {
-        1
+        2
     }
 
     fn floor_level(&self) -> u32 {

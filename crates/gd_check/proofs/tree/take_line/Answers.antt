@@ -1,7 +1,6 @@
-use Rattle.std.proofs.Common.{arith, rules, ◌≡◌, ◌<◌, ◌++◌, ◌∷◌, [], None, Some, length, refl, sym, ap, ◌∙◌, subst, option_map}
+use Rattle.std.proofs.Common.{rules, ◌≡◌, None, Some, length, sym, ap, ◌∙◌, subst, option_map}
 use Rattle.std.proofs.lemmas.List.Elements.{All-pop}
 use Rattle.gd_cells.specs.Meaning.{IsCell, Questions}
-use Rattle.gd_cells.specs.declared.node.Node.TheVariants.{Split}
 use Rattle.gd_check.proofs.Waiting.{above_cell, line_breaks, line_keeps, low_cell, no_cell}
 use Rattle.gd_check.specs.Rules.{code_of, kind_of}
 use Rattle.gd_check.specs.Wrong.{line_code}

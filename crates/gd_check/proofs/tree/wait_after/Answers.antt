@@ -1,8 +1,7 @@
 use Rattle.gd_cells.proofs.Cells.{halves_are_cells}
 use Rattle.gd_cells.specs.Meaning.{IsCell, Questions}
-use Rattle.gd_cells.specs.Halves.{halves}
 use Rattle.gd_cells.specs.declared.cell.Cell.{Cell}
-use Rattle.std.proofs.Common.{◌≡◌, subst, sym}
+use Rattle.std.proofs.Common.{subst, sym}
 use Rattle.gd_check.proofs.Waiting.{two_more}
 use Rattle.gd_check.proofs.tree.wait_after.Goals as goal
 
