@@ -65,16 +65,26 @@ reason_size reason.Floor = omega arith
 
 stop_size : (level undecided spent : ℕ) (why : Reason) → CountsFit level undecided spent → length (line_text (codes "at" ∷ decimal level ∷ decimal undecided ∷ decimal spent ∷ reason_word why ∷ [])) ≤ 43
 stop_size level undecided spent why h =
-    omega (arith, line_size (codes "at") (decimal level ∷ decimal undecided ∷ decimal spent ∷ reason_word why ∷ []), number_size level h.level_fits,
-        number_size undecided h.undecided_fits, number_size spent h.spent_fits, reason_size why)
+    omega (
+      arith,
+      line_size (codes "at") (decimal level ∷ decimal undecided ∷ decimal spent ∷ reason_word why ∷ []),
+      number_size level h.level_fits,
+      number_size undecided h.undecided_fits,
+      number_size spent h.spent_fits,
+      reason_size why,
+    )
 
 body_size : (body : Body) → BodyFits body → length (flat_map line_text (body_lines body)) ≤ 265 + 35 * length (tree_of body)
 body_size (Accept root at) h =
     omega (arith, length-append (line_text (codes "w" ∷ decimal root ∷ map signed_decimal at)) [], witness_size root at h)
 body_size (Reject tree) h = omega (arith, tree_size tree h.0)
 body_size (Open level undecided spent why tree) h =
-    omega (arith, length-append (line_text (codes "at" ∷ decimal level ∷ decimal undecided ∷ decimal spent ∷ reason_word why ∷ [])) (flat_map line_text (map node_words tree)),
-        stop_size level undecided spent why h.0, tree_size tree h.1)
+    omega (
+      arith,
+      length-append (line_text (codes "at" ∷ decimal level ∷ decimal undecided ∷ decimal spent ∷ reason_word why ∷ [])) (flat_map line_text (map node_words tree)),
+      stop_size level undecided spent why h.0,
+      tree_size tree h.1,
+    )
 
 verdict_size : (body : Body) → length (verdict_word body) ≤ 6
 verdict_size (Accept root at) = omega arith
@@ -89,14 +99,23 @@ first_size number body h =
 group_parts : (number : ℕ) (body : Body) (bodies : List Body) → length (flat_map line_text (groups_lines number (body ∷ bodies)))
     ≡ length (line_text (codes "group" ∷ decimal number ∷ verdict_word body ∷ [])) + (length (flat_map line_text (body_lines body)) + length (flat_map line_text (groups_lines (number + 1) bodies)))
 group_parts number body bodies =
-    rw (length-append (line_text (codes "group" ∷ decimal number ∷ verdict_word body ∷ [])) (flat_map line_text (body_lines body ++ groups_lines (number + 1) bodies)),
-        flat_map-append line_text (body_lines body) (groups_lines (number + 1) bodies), length-append (flat_map line_text (body_lines body)) (flat_map line_text (groups_lines (number + 1) bodies))) refl
+    rw (
+      length-append (line_text (codes "group" ∷ decimal number ∷ verdict_word body ∷ [])) (flat_map line_text (body_lines body ++ groups_lines (number + 1) bodies)),
+      flat_map-append line_text (body_lines body) (groups_lines (number + 1) bodies),
+      length-append (flat_map line_text (body_lines body)) (flat_map line_text (groups_lines (number + 1) bodies)),
+    ) refl
 
 pub groups_size : (number : ℕ) (bodies : List Body) → number + length bodies ≤ 2 ^ 32 → All BodyFits bodies → length (flat_map line_text (groups_lines number bodies)) ≤ sum_by most_bytes bodies
 groups_size number [] few h = omega arith
 groups_size number (body ∷ bodies) few h =
-    omega (arith, group_parts number body bodies, sum_by-cons most_bytes body bodies, first_size number body (omega arith), body_size body (All-head BodyFits body bodies h),
-        groups_size (number + 1) bodies (omega arith) (All-tail BodyFits body bodies h))
+    omega (
+      arith,
+      group_parts number body bodies,
+      sum_by-cons most_bytes body bodies,
+      first_size number body (omega arith),
+      body_size body (All-head BodyFits body bodies h),
+      groups_size (number + 1) bodies (omega arith) (All-tail BodyFits body bodies h),
+    )
 
 heading_size : (heading : Heading) → HeadingFits heading → length (line_text (heading_words heading)) ≤ 64
 heading_size Plain h = omega arith
@@ -116,8 +135,15 @@ texts_are_short c h =
     let groups = flat_map line_text (groups_lines 1 c.groups) in
     let size = six_sizes (codes "gdcert 1\n") (line_text (heading_words c.heading)) (line_text (codes "share" ∷ decimal c.share ∷ [])) (line_text (codes "groups" ∷ decimal c.told ∷ [])) groups (codes "end\n") in
     let whole = ap length (whole_text c) in
-    omega (arith, size, whole, heading_size c.heading h.heading, count_size (codes "share") c.share (omega (arith, h.share)), count_size (codes "groups") c.told (omega (arith, h.few_told)),
-        groups_size 1 c.groups (omega (arith, h.count)) h.groups)
+    omega (
+      arith,
+      size,
+      whole,
+      heading_size c.heading h.heading,
+      count_size (codes "share") c.share (omega (arith, h.share)),
+      count_size (codes "groups") c.told (omega (arith, h.few_told)),
+      groups_size 1 c.groups (omega (arith, h.count)) h.groups,
+    )
 
 pub one_group_is_short : OneGroupIsShort
 one_group_is_short c body h one small =
@@ -163,7 +189,7 @@ kept_within number first end (group ∷ groups) e h =
     let body = body_of group.body in
     let count = groups_count number body (bodies_of groups) in
     All-cons (Within end) group groups (omega (arith, ap (λ xs. get_or xs 0 0) e, count, h))
-        (kept_within (number + 1) (first + 1 + length (body_lines body)) end groups (ap (drop 1) e) (omega (arith, count, h)))
+    (kept_within (number + 1) (first + 1 + length (body_lines body)) end groups (ap (drop 1) e) (omega (arith, count, h)))
 
 pub kept_lines_lie_within : KeptLinesLieWithin
 kept_lines_lie_within c e = kept_within 1 5 (length (lines (certificate_of c))) c.groups.items e (omega (arith, lines_count (certificate_of c)))

@@ -2,7 +2,6 @@
 ghost use Rattle.std.specs.Prelude.{◌≡◌, ◌<◌, ◌^◌, ◌+◌, ◌∷◌, [], ◌++◌, IfOk, OnOk, codes, decimal, length, map};
 ghost use Rattle.std.specs.Fmt.{signed_decimal};
 ghost use Rattle.std.specs.List.{flat_map};
-ghost use Rattle.gd_cert.specs.Bounds.{IsInBounds};
 ghost use Rattle.gd_cert.specs.Certificates.{body_of, certificate_of, heading_of};
 ghost use Rattle.gd_cert.specs.Text.{body_lines, groups_lines, heading_words, line_text, node_words, reason_word, text, verdict_word};
 ghost use Rattle.gd_cert.specs.declared.cert.CertGroup.{CertGroup};
@@ -167,7 +166,6 @@ fn put_groups(text: &mut Vec<u8>, groups: &[CertGroup]) -> Result<(), Memory>
 
 /// The text of a certificate (docs/FORMATS.md, "Certificate"). The kept lines are no part of it.
 pub fn write_cert(alloc: Global, cert: &Cert) -> Result<Vec<u8>, Memory>
-    requires { IsInBounds (certificate_of cert.now) }
     ensures { IfOk result (λ v. v.items ≡ text (certificate_of cert.now)) }
 {
     let mut text = Vec::from_slice(alloc, b"gdcert 1\n")?;
@@ -177,4 +175,99 @@ pub fn write_cert(alloc: Global, cert: &Cert) -> Result<Vec<u8>, Memory>
     put_groups(&mut text, &cert.groups)?;
     text.extend_from_slice(b"end\n")?;
     Ok(text)
+}
+
+#[cfg(test)]
+mod tests {
+    use super::write_cert;
+    use crate::cert::{Cert, CertBody, CertGroup, Head};
+    use gd_base::{Memory, Name2, Reason};
+    use gd_cells::{Evidence, Node};
+    use std::alloc::Global;
+
+    // A certificate with each kind of line.
+    fn each_line(alloc: Global) -> Result<Cert, Memory> {
+        let e = |condition: u32, a: u32, b: u32| Node::Refuted(Evidence { condition, a, b });
+        let refuted = vec![in alloc; Node::Split, e(1, 2, 0), e(4_294_967_295, 200_000, 7)]?;
+        let floor = vec![in alloc; Node::Split, Node::Left, Node::Left]?;
+        let bodies = vec![in alloc;
+            CertBody::Accept {
+                root: 3,
+                at: vec![in alloc; 1_073_741_824, -5, 0]?
+            },
+            CertBody::Reject { tree: refuted },
+            CertBody::StillOpen {
+                level: 1,
+                undecided: 2,
+                spent: 10,
+                reason: Reason::Floor,
+                tree: floor
+            },
+            CertBody::StillOpen {
+                level: 0,
+                undecided: 1,
+                spent: 9,
+                reason: Reason::Budget,
+                tree: vec![in alloc; Node::Left]?
+            },
+        ]?;
+        let mut groups = Vec::new(alloc);
+        for body in bodies {
+            groups.push(CertGroup { line: 0, body })?;
+        }
+        let name = Name2::of(alloc, "top-1/2#flat")?;
+        Ok(Cert {
+            head: Head::Probe {
+                name,
+                tolerance: 16_000_000,
+            },
+            share: 1_000_000,
+            told: 300_000,
+            groups,
+        })
+    }
+
+    const EACH_LINE: &[u8] = b"gdcert 1\n\
+        probe top-1/2#flat 16000000\n\
+        share 1000000\n\
+        groups 300000\n\
+        group 1 accept\n\
+        w 3 1073741824 -5 0\n\
+        group 2 reject\n\
+        s\n\
+        r 1 2 0\n\
+        r 4294967295 200000 7\n\
+        group 3 open\n\
+        at 1 2 10 floor\n\
+        s\n\
+        o\n\
+        o\n\
+        group 4 open\n\
+        at 0 1 9 budget\n\
+        o\n\
+        end\n";
+
+    #[test]
+    fn texts(rt: HostRuntime) {
+        let cert = each_line(rt.alloc()).expect(&rt, "memory");
+        assert_eq!(rt;
+            write_cert(rt.alloc(), &cert)
+                .expect(&rt, "memory")
+                .as_slice(),
+            EACH_LINE
+        );
+        let empty = Cert {
+            head: Head::Plain,
+            share: 0,
+            told: 1,
+            groups: Vec::new(rt.alloc()),
+        };
+        let want: &[u8] = b"gdcert 1\nplain\nshare 0\ngroups 1\nend\n";
+        assert_eq!(rt;
+            write_cert(rt.alloc(), &empty)
+                .expect(&rt, "memory")
+                .as_slice(),
+            want
+        );
+    }
 }
