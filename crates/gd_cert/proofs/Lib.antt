@@ -1,2 +1,3 @@
+mod KnownTexts
 pub mod Sizes
 pub mod Writing

@@ -1,5 +1,5 @@
 -- The lengths of lines and of whole texts.
-use Rattle.std.proofs.Common.{arith, length-append, ℕ, zero, suc, ℤ, pos, negsuc, ◌≡◌, ◌≤◌, ◌<◌, ◌+◌, ◌*◌, ◌^◌, refl, ap, List, [], ◌∷◌, ◌++◌, length, map, drop, get_or, codes, decimal, unsigned_abs, Some, None, is_some, slice_get}
+use Rattle.std.proofs.Common.{arith, length-append, ℕ, zero, suc, ℤ, pos, negsuc, ◌≡◌, ◌≤◌, ◌<◌, ◌+◌, ◌*◌, ◌^◌, refl, ap, List, [], ◌∷◌, ◌++◌, length, map, drop, get_or, codes, decimal, unsigned_abs, Some, is_some, slice_get}
 use Rattle.std.specs.Fmt.{signed_decimal}
 use Rattle.std.specs.List.{All, flat_map, sum_by}
 use Rattle.std.proofs.lemmas.Bool.{false≢true}
@@ -10,10 +10,9 @@ use Rattle.std.proofs.lemmas.List.Sums.{sum_by-cons}
 use Rattle.std.proofs.lemmas.Option.{same_Some}
 use Rattle.gd_base.specs.declared.verdict.Reason.{Reason}
 use Rattle.gd_base.specs.declared.verdict.Reason.TheVariants as reason
-use Rattle.gd_cells.specs.Laws.{IsShort}
 use Rattle.gd_cells.specs.declared.node.Node.{Node}
 use Rattle.gd_cells.specs.declared.node.Node.TheVariants.{Split, Refuted, Left}
-use Rattle.gd_cert.specs.Bounds.{BodyFits, CountsFit, HeadingFits, IsInBounds, IsRequirement, NodeFits, WitnessFits}
+use Rattle.gd_cert.specs.Bounds.{BodyFits, CountsFit, HeadingFits, NodeFits, WitnessFits}
 use Rattle.gd_cert.specs.Certificates.{Body, Accept, Reject, Open, Certificate, Heading, Plain, Probe, body_of, certificate_of}
 use Rattle.gd_cert.specs.Sizes.{GroupsLieWithin, KeptLinesLieWithin, LinesAreFew, OneGroupIsShort, TextsAreShort, most_bytes, tree_of}
 use Rattle.gd_cert.specs.Text.{body_lines, first_lines, groups_lines, heading_words, line_text, lines, node_words, reason_word, spaced, text, verdict_word}

@@ -1,7 +1,6 @@
 -- How long a text is, and how many lines it has.
 use Rattle.std.specs.Prelude.{ℕ, ◌+◌, ◌*◌, ◌≡◌, ◌≤◌, Some, List, [], ◌∷◌, length, slice_get}
 use Rattle.std.specs.List.{All, sum_by}
-use Rattle.gd_base.specs.declared.verdict.Reason.{Reason}
 use Rattle.gd_cells.specs.declared.node.Node.{Node}
 use Rattle.gd_cert.specs.Bounds.{IsInBounds}
 use Rattle.gd_cert.specs.Certificates.{Body, Accept, Reject, Open, Certificate, body_of, certificate_of}
