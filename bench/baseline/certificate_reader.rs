@@ -108,11 +108,13 @@ fn witness(words: &mut Words) -> Option<Body> {
     (2..=12).contains(&at.len()).then_some(Body::Accept { root, at })
 }
 
+fn reason(word: &[u8]) -> Option<Reason> {
+    [Reason::Budget, Reason::Floor].into_iter().find(|it| it.word().as_bytes() == word)
+}
+
+/// A level, its undecided cells, those that were split before, and why the search stopped.
 fn stop(words: &mut Words) -> Option<(u32, u32, u32, Reason)> {
-    let counts = (sized(words, b"at", 1 << 32)?, next_count(words)?, next_count(words)?);
-    let reason = [Reason::Budget, Reason::Floor].into_iter();
-    let word = words.next()?;
-    reason.into_iter().find(|it| it.word().as_bytes() == word).map(|it| (counts.0, counts.1, counts.2, it))
+    Some((sized(words, b"at", 1 << 32)?, next_count(words)?, next_count(words)?, reason(words.next()?)?))
 }
 
 fn body(lines: &mut Lines, verdict: &[u8]) -> Result<Body, Fault> {

@@ -100,7 +100,11 @@ fn are_right_counts(budget: u32, (level, undecided, spent): (u32, u32, u32), rea
         Reason::Budget => is_past && level != FINEST,
         Reason::Floor => level == FINEST,
     };
-    undecided > 0 && undecided as usize == count(Node::Left) && spent as usize == count(Node::Split) && spent <= budget && fits
+    undecided > 0
+        && undecided as usize == count(Node::Left)
+        && spent as usize == count(Node::Split)
+        && spent <= budget
+        && fits
 }
 
 /// The first wrong line of a certificate of flatness, if any is wrong.

@@ -67,7 +67,9 @@ fn answer(words: &[&str]) -> Answer {
         &["flat", file, tolerance, budget, ref stored @ ..] if stored.len() <= 1 => tolerance_in(tolerance)
             .zip(number(budget, 1, 1_000_000))
             .map(|(tolerance, budget)| judge(file, tolerance, budget, stored.first().copied())),
-        &["checkflat", file, tolerance, stored] => tolerance_in(tolerance).map(|tolerance| check(file, tolerance, stored)),
+        &["checkflat", file, tolerance, stored] => {
+            tolerance_in(tolerance).map(|tolerance| check(file, tolerance, stored))
+        }
         _ => None,
     };
     said.map_or_else(wrong_words, |it| it.unwrap_or_else(|refused| refused))
