@@ -1,0 +1,3 @@
+mod KnownTexts
+pub mod Sizes
+pub mod Writing

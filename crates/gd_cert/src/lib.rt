@@ -3,10 +3,15 @@
 
 mod cert;
 mod fault;
+mod lengths;
 mod read;
 mod write;
 
 pub use cert::{Cert, CertBody, CertGroup, Head};
 pub use fault::{CertFault, CertReadFault};
+pub use lengths::{
+    show_groups_lie_within, show_kept_lines_lie_within, show_lines_are_few,
+    show_one_group_is_short, show_texts_are_short,
+};
 pub use read::read_cert;
 pub use write::write_cert;
