@@ -2,8 +2,15 @@
 #![tactic(auto)]
 
 mod cert;
+mod draft;
 mod fault;
+pub mod laws;
+mod line;
+mod number;
 mod read;
+mod rule;
+mod stage;
+mod word;
 mod write;
 
 pub use cert::{Cert, CertBody, CertGroup, Head};
