@@ -46,6 +46,7 @@ impl CertDraft {
     }
 
     /// Takes the words of one more line, whose number is `line`.
+    #[tactic(auto, unfolding(crate::specs::Reading::with_line))]
     pub(crate) fn take_line(
         &mut self,
         alloc: Global,

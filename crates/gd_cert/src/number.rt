@@ -1,5 +1,5 @@
 // The numbers that words spell.
-ghost use Rattle.std.specs.Prelude.{◌≡◌, ◌≤◌, ◌^◌, Ok, IfOk, length};
+ghost use Rattle.std.specs.Prelude.{◌≡◌, ◌<◌, ◌≤◌, ◌^◌, IfSome, option_map, pos};
 ghost use Rattle.gd_cert.specs.Drafts.{Answers, texts};
 ghost use Rattle.gd_cert.specs.Words.{below_zero, number_below, number_of, or_rule, signed_number, signed_numbers};
 ghost use Rattle.gd_cert.specs.declared.rule.Rule.TheVariants as rule;
@@ -15,7 +15,9 @@ const SIZE_LIMIT: u64 = 1 << 62;
 /// The number below the limit that a word spells.
 pub(crate) fn read_below(word: &[u8], limit: u64) -> Option<u64>
     requires some { 1 ≤ limit }
-    ensures { result ≡ number_below limit word.now }
+    requires few { limit ≤ 2 ^ 63 }
+    ensures is { result ≡ number_below limit word.now }
+    ensures small { IfSome result (λ n. n < limit) }
 {
     match str::from_utf8(word) {
         Ok(text) => plain_number(text, limit - 1),
@@ -34,15 +36,24 @@ pub(crate) fn read_number(word: &[u8]) -> Option<u32>
 }
 
 // The number below 2^62 in size that a word spells.
+#[tactic(auto, unfolding(crate::specs::Words::signed_number))]
 fn read_signed(word: &[u8]) -> Option<i64>
     ensures { result ≡ signed_number word.now }
 {
     match word {
+        [] => None,
         [b'-', size @ ..] => read_below_zero(size),
-        _ => match read_below(word, SIZE_LIMIT) {
-            None => None,
-            Some(size) => Some(size as i64),
-        },
+        _ => read_from_zero(word),
+    }
+}
+
+// The number from 0 on that a word spells.
+fn read_from_zero(word: &[u8]) -> Option<i64>
+    ensures { result ≡ option_map pos (number_below 4611686018427387904 word.now) }
+{
+    match read_below(word, SIZE_LIMIT) {
+        None => None,
+        Some(size) => Some(size as i64),
     }
 }
 
