@@ -1,3 +1,5 @@
 pub mod Numbers
 pub mod Cuts
 pub mod Views
+pub mod Steps
+pub mod Lines

@@ -25,11 +25,14 @@ pub fn read_cert(alloc: Global, bytes: &[u8]) -> Result<Cert, CertReadFault>
     // Which fault it is.
     ensures exact { Gives certificate_of result (reading bytes.now) }
 {
-    let draft = read_draft(alloc, bytes)?;
-    Ok(draft.into_cert())
+    match read_draft(alloc, bytes) {
+        Ok(draft) => Ok(draft.into_cert()),
+        Err(fault) => Err(fault),
+    }
 }
 
 // What all the lines tell.
+#[tactic(auto, unfolding(crate::specs::Reading::drafted))]
 fn read_draft(alloc: Global, bytes: &[u8]) -> Result<CertDraft, CertReadFault>
     requires { length bytes.now ≤ 134217728 }
     ensures { Gives draft_of result (drafted bytes.now) }
