@@ -30,7 +30,7 @@ pub chosen : {A : Type 0} (b : Bool) (x y z : A) → cond b x y ≡ z → ((b �
 chosen true x y z h = inl (refl, h)
 chosen false x y z h = inr (refl, h)
 
-passed : {A E : Type 0} (b : Bool) (x : Result A E) (e : E) (z : A) → cond b x (Err e) ≡ Ok z → (b ≡ true) × (x ≡ Ok z)
+pub passed : {A E : Type 0} (b : Bool) (x : Result A E) (e : E) (z : A) → cond b x (Err e) ≡ Ok z → (b ≡ true) × (x ≡ Ok z)
 passed true x e z h = (refl, h)
 passed false x e z h = cc h
 
@@ -42,7 +42,7 @@ or_ok : {A : Type 0} (o : Option A) (e : Rule) (x : A) → or_rule o e ≡ Ok x 
 or_ok None e x h = cc h
 or_ok (Some y) e x h = cc h
 
-ok_same : {A E : Type 0} (x y : A) → ◌≡◌ {A = Result A E} (Ok x) (Ok y) → x ≡ y
+pub ok_same : {A E : Type 0} (x y : A) → ◌≡◌ {A = Result A E} (Ok x) (Ok y) → x ≡ y
 ok_same x y h = cc h
 
 some_same : {A : Type 0} (x y : A) → Some x ≡ Some y → x ≡ y
