@@ -1,18 +1,16 @@
 -- What is read is spelled so: the lines that a draft tells are the lines that were read.
-use Rattle.std.proofs.Common.{◌≡◌, ℕ, ◌+◌, ◌≤◌, ◌<◌, ◌^◌, Bool, true, false, List, [], ◌∷◌, ◌++◌, length, map, cond, arith, sym, refl, ap, subst, ◌∙◌, decimal, inl, inr}
-use Rattle.std.specs.Prelude.{Result, Ok, Err, codes}
+use Rattle.std.proofs.Common.{◌≡◌, ℕ, ◌+◌, ◌<◌, ◌^◌, true, false, List, [], ◌∷◌, ◌++◌, length, map, arith, sym, refl, ap, subst, ◌∙◌, decimal, inl, inr}
+use Rattle.std.specs.Prelude.{Ok, codes}
 use Rattle.std.specs.List.{All}
 use Rattle.std.proofs.lemmas.List.{length-append, length-map, map-append, append_assoc, append-nil}
 use Rattle.std.proofs.lemmas.List.Elements.{All-nil, All-push}
 use Rattle.gd_base.specs.declared.verdict.Reason.{Reason}
 use Rattle.gd_cells.specs.declared.node.Node.{Node}
-use Rattle.gd_cert.proofs.Lines.{IsCountsLine, IsGroupLine, IsNodeLine, IsWitness, bind_ok, chosen, counts_found, counts_words, group_found, group_line, heading_found, node_found, ok_same, passed, share_found, title_found, told_found, witness_found}
+use Rattle.gd_cert.proofs.Lines.{IsCountsLine, IsGroupLine, IsNodeLine, IsWitness, bind_ok, chosen, counts_words, group_found, group_line, node_found, ok_same}
 use Rattle.gd_cert.specs.Bounds.{BodyFits, CountsFit, IsDecided, IsInBounds, NodeFits}
-use Rattle.gd_cert.specs.Certificates.{Body, Accept, Reject, Open, Certificate, Heading}
-use Rattle.gd_cert.specs.Reading.{Draft, Placed, at_stage, bodies_of, certificate_in, counts_in, ends_tree, group_in, heading_in, lines_of, node_in, share_in, title_in, told_in, with_line_at, with_tree_in, with_body, with_group, with_node, with_tree_line, witness_in}
-use Rattle.gd_cert.specs.Text.{body_lines, first_lines, groups_lines, heading_words, lines, node_words, title, verdict_word}
-use Rattle.gd_cert.specs.declared.rule.Rule.{Rule}
-use Rattle.gd_cert.specs.declared.rule.Rule.TheVariants as rule
+use Rattle.gd_cert.specs.Certificates.{Body, Accept, Reject, Open}
+use Rattle.gd_cert.specs.Reading.{Draft, Placed, at_stage, bodies_of, certificate_in, ends_tree, group_in, lines_of, node_in, with_tree_in, with_body, with_group, with_tree_line}
+use Rattle.gd_cert.specs.Text.{body_lines, first_lines, groups_lines, heading_words, node_words, title, verdict_word}
 use Rattle.gd_cert.specs.declared.stage.Stage.{Stage}
 use Rattle.gd_cert.specs.declared.stage.Stage.TheVariants as stage
 
@@ -28,8 +26,8 @@ groups_last number [] body =
 groups_last number (b ∷ bodies) body =
     let there : number + 1 + length bodies ≡ number + length (b ∷ bodies) = omega arith in
     ap (λ (ls : Lines). group_line number (verdict_word b) ∷ ls) (
-      ap (λ (ls : Lines). body_lines b ++ ls) (groups_last (number + 1) bodies body ∙ ap (λ n. groups_lines (number + 1) bodies ++ group_line n (verdict_word body) ∷ body_lines body) there)
-      ∙ sym (append_assoc (body_lines b) (groups_lines (number + 1) bodies) (group_line (number + length (b ∷ bodies)) (verdict_word body) ∷ body_lines body))
+    ap (λ (ls : Lines). body_lines b ++ ls) (groups_last (number + 1) bodies body ∙ ap (λ n. groups_lines (number + 1) bodies ++ group_line n (verdict_word body) ∷ body_lines body) there)
+    ∙ sym (append_assoc (body_lines b) (groups_lines (number + 1) bodies) (group_line (number + length (b ∷ bodies)) (verdict_word body) ∷ body_lines body))
     )
 
 first_last : (line number : ℕ) (bodies : List Body) (body : Body) → first_lines line (bodies ++ body ∷ []) ≡ first_lines line bodies ++ (line + length (groups_lines number bodies)) ∷ []
@@ -38,8 +36,8 @@ first_last line number (b ∷ bodies) body =
     let more = length-append (body_lines b) (groups_lines (number + 1) bodies) in
     let there : line + 1 + length (body_lines b) + length (groups_lines (number + 1) bodies) ≡ line + length (groups_lines number (b ∷ bodies)) = omega (arith, more) in
     ap (λ (ls : List ℕ). line ∷ ls) (
-      first_last (line + 1 + length (body_lines b)) (number + 1) bodies body
-      ∙ ap (λ n. first_lines (line + 1 + length (body_lines b)) bodies ++ n ∷ []) there
+    first_last (line + 1 + length (body_lines b)) (number + 1) bodies body
+    ∙ ap (λ n. first_lines (line + 1 + length (body_lines b)) bodies ++ n ∷ []) there
     )
 
 -- ---- the lines that a draft tells
@@ -99,8 +97,8 @@ front_last d body =
     let bodies : bodies_of (extended d body) ≡ bodies_of d.groups ++ body ∷ [] = map-append (λ (group : Placed). group.body) d.groups (record { line = d.begun; body = body } ∷ []) in
     let many : 1 + length (bodies_of d.groups) ≡ next_number d = omega (arith, length-map d.groups (λ (group : Placed). group.body)) in
     ap (λ (ls : Lines). title ∷ heading_words d.heading ∷ (codes "share" ∷ decimal d.share ∷ []) ∷ (codes "groups" ∷ decimal d.told ∷ []) ∷ ls) (
-      ap (groups_lines 1) bodies ∙ groups_last 1 (bodies_of d.groups) body
-      ∙ ap (λ n. groups_lines 1 (bodies_of d.groups) ++ group_line n (verdict_word body) ∷ body_lines body) many
+    ap (groups_lines 1) bodies ∙ groups_last 1 (bodies_of d.groups) body
+    ∙ ap (λ n. groups_lines 1 (bodies_of d.groups) ++ group_line n (verdict_word body) ∷ body_lines body) many
     )
 
 -- what holds of the groups with the one that was begun
@@ -116,7 +114,10 @@ extends d body bounds starts begun fits =
     let more = length-append (bodies_of d.groups) (body ∷ []) in
     record {
       bounds = record {
-        heading = bounds.heading; share = bounds.share; some_told = bounds.some_told; few_told = bounds.few_told;
+        heading = bounds.heading;
+        share = bounds.share;
+        some_told = bounds.some_told;
+        few_told = bounds.few_told;
         count = omega (arith, ap (λ (bs : List Body). length bs) bodies, many, more, begun.number);
         groups = subst (All BodyFits) (sym bodies) (All-push BodyFits (bodies_of d.groups) body bounds.groups fits);
       };
@@ -147,11 +148,15 @@ with_group_found line words d stage.Counts is h =
 with_group_found line words d stage.Reject is h =
     let e = group_draft line stage.Reject d in
     let none : map node_words d.tree ≡ [] = ap (map node_words) is.current in
-    let after : told_lines stage.Reject e ≡ front d d.groups ++ words ∷ [] = front_last e (Reject d.tree) ∙ (λ i. front d d.groups ++ sym h.0 i ∷ none i) in
-    (after, record {
-      bounds = is.bounds; starts = is.starts; place = last_place line (front d d.groups) _ words after is.place;
-      current = (begins line d is h.1 stage.Reject, subst (All NodeFits) (sym is.current) (All-nil NodeFits), subst (All IsDecided) (sym is.current) (All-nil IsDecided));
-    })
+    let after : told_lines stage.Reject e ≡ front d d.groups ++ words ∷ [] = front_last e (Reject d.tree) ∙ (λ i. front d d.groups ++ sym h.0 i ∷ none i) in (
+      after,
+      record {
+        bounds = is.bounds;
+        starts = is.starts;
+        place = last_place line (front d d.groups) _ words after is.place;
+        current = (begins line d is h.1 stage.Reject, subst (All NodeFits) (sym is.current) (All-nil NodeFits), subst (All IsDecided) (sym is.current) (All-nil IsDecided));
+      },
+    )
 with_group_found line words d stage.Done is h =
     let after : told_lines stage.Done (group_draft line stage.Done d) ≡ front d d.groups ++ words ∷ [] = ap (λ (w : List (List ℕ)). front d d.groups ++ w ∷ []) (sym h) in
     (after, record { bounds = is.bounds; starts = is.starts; place = last_place line (front d d.groups) _ words after is.place; current = is.current })
@@ -188,12 +193,16 @@ counts_step line words d (stage.Open l u p r) is h =
     let e = at_stage (stage.Open l u p r) d in
     let none : map node_words d.tree ≡ [] = ap (map node_words) is.current.1 in
     let after : told_lines (stage.Open l u p r) e ≡ told_lines stage.Counts d ++ words ∷ [] =
-      front_last e (Open l u p r d.tree) ∙ (λ i. front d d.groups ++ group_line (next_number d) (codes "open") ∷ sym h.0 i ∷ none i)
-      ∙ sym (append_assoc (front d d.groups) (group_line (next_number d) (codes "open") ∷ []) (words ∷ [])) in
-    (after, record {
-      bounds = is.bounds; starts = is.starts; place = last_place line (told_lines stage.Counts d) _ words after is.place;
-      current = (record { number = is.current.0.number; line = is.current.0.line }, h.1, subst (All NodeFits) (sym is.current.1) (All-nil NodeFits));
-    })
+    front_last e (Open l u p r d.tree) ∙ (λ i. front d d.groups ++ group_line (next_number d) (codes "open") ∷ sym h.0 i ∷ none i)
+    ∙ sym (append_assoc (front d d.groups) (group_line (next_number d) (codes "open") ∷ []) (words ∷ [])) in (
+      after,
+      record {
+        bounds = is.bounds;
+        starts = is.starts;
+        place = last_place line (told_lines stage.Counts d) _ words after is.place;
+        current = (record { number = is.current.0.number; line = is.current.0.line }, h.1, subst (All NodeFits) (sym is.current.1) (All-nil NodeFits));
+      },
+    )
 counts_step line words d stage.Title is h = absurd h
 counts_step line words d stage.Heading is h = absurd h
 counts_step line words d stage.Share is h = absurd h
@@ -216,12 +225,16 @@ reject_node line words d node is h =
     let e = node_draft d stage.Reject node in
     let group = group_line (next_number d) (codes "reject") in
     let after : told_lines stage.Reject e ≡ told_lines stage.Reject d ++ words ∷ [] =
-      front_last e (Reject (d.tree ++ node ∷ [])) ∙ (λ i. front d d.groups ++ group ∷ more_words d.tree node words h.0 i)
-      ∙ sym (append_assoc (front d d.groups) (group ∷ map node_words d.tree) (words ∷ [])) ∙ (λ i. sym (front_last d (Reject d.tree)) i ++ words ∷ []) in
-    (after, record {
-      bounds = is.bounds; starts = is.starts; place = last_place line (told_lines stage.Reject d) _ words after is.place;
-      current = (record { number = is.current.0.number; line = is.current.0.line }, All-push NodeFits d.tree node is.current.1 h.1, All-push IsDecided d.tree node is.current.2 (h.2 refl));
-    })
+    front_last e (Reject (d.tree ++ node ∷ [])) ∙ (λ i. front d d.groups ++ group ∷ more_words d.tree node words h.0 i)
+    ∙ sym (append_assoc (front d d.groups) (group ∷ map node_words d.tree) (words ∷ [])) ∙ (λ i. sym (front_last d (Reject d.tree)) i ++ words ∷ []) in (
+      after,
+      record {
+        bounds = is.bounds;
+        starts = is.starts;
+        place = last_place line (told_lines stage.Reject d) _ words after is.place;
+        current = (record { number = is.current.0.number; line = is.current.0.line }, All-push NodeFits d.tree node is.current.1 h.1, All-push IsDecided d.tree node is.current.2 (h.2 refl));
+      },
+    )
 
 open_node : (line l u p : ℕ) (r : Reason) (words : List (List ℕ)) (d : Draft) (node : Node) → IsDraft (stage.Open l u p r) line d → IsNodeLine true words node
     → Stepped line (told_lines (stage.Open l u p r) d) words (node_draft d (stage.Open l u p r) node)
@@ -230,12 +243,16 @@ open_node line l u p r words d node is h =
     let group = group_line (next_number d) (codes "open") in
     let counts = body_lines (Open l u p r d.tree) in
     let after : told_lines (stage.Open l u p r) e ≡ told_lines (stage.Open l u p r) d ++ words ∷ [] =
-      front_last e (Open l u p r (d.tree ++ node ∷ [])) ∙ (λ i. front d d.groups ++ group ∷ counts_words l u p r ∷ more_words d.tree node words h.0 i)
-      ∙ sym (append_assoc (front d d.groups) (group ∷ counts) (words ∷ [])) ∙ (λ i. sym (front_last d (Open l u p r d.tree)) i ++ words ∷ []) in
-    (after, record {
-      bounds = is.bounds; starts = is.starts; place = last_place line (told_lines (stage.Open l u p r) d) _ words after is.place;
-      current = (record { number = is.current.0.number; line = is.current.0.line }, is.current.1, All-push NodeFits d.tree node is.current.2 h.1);
-    })
+    front_last e (Open l u p r (d.tree ++ node ∷ [])) ∙ (λ i. front d d.groups ++ group ∷ counts_words l u p r ∷ more_words d.tree node words h.0 i)
+    ∙ sym (append_assoc (front d d.groups) (group ∷ counts) (words ∷ [])) ∙ (λ i. sym (front_last d (Open l u p r d.tree)) i ++ words ∷ []) in (
+      after,
+      record {
+        bounds = is.bounds;
+        starts = is.starts;
+        place = last_place line (told_lines (stage.Open l u p r) d) _ words after is.place;
+        current = (record { number = is.current.0.number; line = is.current.0.line }, is.current.1, All-push NodeFits d.tree node is.current.2 h.1);
+      },
+    )
 
 -- a tree is whole, and the line behind it is one behind a group
 closed : (s : Stage) (line : ℕ) (d : Draft) (body : Body) → IsDraft s line d → told_lines s d ≡ front d (extended d body) → Begun d → BodyFits body → IsDraft stage.Group line (with_tree_in body d)

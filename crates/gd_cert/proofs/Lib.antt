@@ -5,3 +5,5 @@ pub mod Steps
 pub mod Lines
 pub mod Found
 pub mod Whole
+pub mod Split
+pub mod Again

@@ -1,6 +1,6 @@
 -- What one line tells: what is read is spelled so, and what is spelled so is read.
-use Rattle.std.proofs.Common.{◌≡◌, ℕ, ◌+◌, ◌≤◌, ◌<◌, ◌^◌, Bool, true, false, ◌==◌, ◌&&◌, List, [], ◌∷◌, Option, Some, None, cond, length, map, ℤ, arith, sym, refl, ap, subst, ◌∙◌, decimal, inl, inr, ◌⊎◌}
-use Rattle.std.specs.Prelude.{Result, Ok, Err, codes, nat_eq, nat_le, unsigned_abs}
+use Rattle.std.proofs.Common.{◌≡◌, ℕ, ◌≤◌, ◌<◌, ◌^◌, Bool, true, false, ◌==◌, ◌&&◌, List, [], ◌∷◌, Option, Some, None, cond, length, map, ℤ, arith, sym, refl, ap, subst, ◌∙◌, decimal, inl, inr, ◌⊎◌}
+use Rattle.std.specs.Prelude.{Result, Ok, Err, codes, nat_le, unsigned_abs}
 use Rattle.std.specs.Cmp.Lexicographic.{same_text}
 use Rattle.std.specs.Fmt.{signed_decimal}
 use Rattle.std.specs.List.{All, list_all}
@@ -9,14 +9,12 @@ use Rattle.std.proofs.lemmas.List.{length-map}
 use Rattle.std.proofs.lemmas.List.Elements.{All-cons, All-nil, All-tail}
 use Rattle.gd_base.specs.declared.verdict.Reason.{Reason}
 use Rattle.gd_base.specs.declared.verdict.Reason.TheVariants as reason
-use Rattle.gd_cells.specs.Laws.{IsShort}
-use Rattle.gd_cells.specs.declared.cell.Evidence.{Evidence}
 use Rattle.gd_cells.specs.declared.node.Node.{Node}
 use Rattle.gd_cells.specs.declared.node.Node.TheVariants.{Split, Refuted, Left}
 use Rattle.gd_cert.proofs.Numbers.{below_again, below_spelled, both, signed_again, signed_spelled}
 use Rattle.gd_cert.specs.Bounds.{CountsFit, HeadingFits, IsDecided, IsRequirement, NodeFits, WitnessFits, is_requirement_byte}
-use Rattle.gd_cert.specs.Certificates.{Body, Accept, Reject, Open, Heading, Plain, Probe}
-use Rattle.gd_cert.specs.Reading.{begun_by, counts_in, end_in, evidence_in, group_in, heading_in, level_in, lone, node_in, number_and_verdict_in, place_in, probe_in, reason_in, share_in, sized_in, title_in, told_in, verdict_in, witness_in}
+use Rattle.gd_cert.specs.Certificates.{Body, Accept, Heading, Plain, Probe}
+use Rattle.gd_cert.specs.Reading.{begun_by, counts_in, end_in, evidence_in, group_in, heading_in, level_in, lone, node_in, number_and_verdict_in, place_in, reason_in, share_in, sized_in, title_in, told_in, verdict_in, witness_in}
 use Rattle.gd_cert.specs.Text.{heading_words, node_words, reason_word, title}
 use Rattle.gd_cert.specs.Words.{and_then_read, is_requirement, is_word, number_below, number_of, onto, or_rule, signed_number, signed_numbers}
 use Rattle.gd_cert.specs.declared.rule.Rule.{Rule}
@@ -144,12 +142,12 @@ verdict_found next [] s small h = cc h
 verdict_found next (w ∷ []) s small h = elim (chosen (is_word w (codes "accept")) _ _ _ h) [
   | inl x ↦ subst (IsGroupLine next (group_line next w)) (some_same _ _ x.1) (ap (group_line next) (same w (codes "accept") x.0), small)
   | inr x ↦ elim (chosen (is_word w (codes "reject")) _ _ _ x.1) [
-      | inl y ↦ subst (IsGroupLine next (group_line next w)) (some_same _ _ y.1) (ap (group_line next) (same w (codes "reject") y.0), small)
-      | inr y ↦ elim (chosen (is_word w (codes "open")) _ _ _ y.1) [
-          | inl z ↦ subst (IsGroupLine next (group_line next w)) (some_same _ _ z.1) (ap (group_line next) (same w (codes "open") z.0), small)
-          | inr z ↦ cc z.1
-        ]
+    | inl y ↦ subst (IsGroupLine next (group_line next w)) (some_same _ _ y.1) (ap (group_line next) (same w (codes "reject") y.0), small)
+    | inr y ↦ elim (chosen (is_word w (codes "open")) _ _ _ y.1) [
+      | inl z ↦ subst (IsGroupLine next (group_line next w)) (some_same _ _ z.1) (ap (group_line next) (same w (codes "open") z.0), small)
+      | inr z ↦ cc z.1
     ]
+  ]
 ]
 verdict_found next (w ∷ v ∷ more) s small h = cc h
 
@@ -254,9 +252,9 @@ reason_found : (w : List ℕ) (r : Reason) → reason_in w ≡ Some r → w ≡ 
 reason_found w r h = elim (chosen (is_word w (codes "budget")) _ _ _ h) [
   | inl x ↦ subst (λ q. w ≡ reason_word q) (some_same _ _ x.1) (same w (codes "budget") x.0)
   | inr x ↦ elim (chosen (is_word w (codes "floor")) _ _ _ x.1) [
-      | inl y ↦ subst (λ q. w ≡ reason_word q) (some_same _ _ y.1) (same w (codes "floor") y.0)
-      | inr y ↦ cc y.1
-    ]
+    | inl y ↦ subst (λ q. w ≡ reason_word q) (some_same _ _ y.1) (same w (codes "floor") y.0)
+    | inr y ↦ cc y.1
+  ]
 ]
 
 level_found : (ws : List (List ℕ)) (s : Stage) → level_in ws ≡ Ok s → IsCountsLine (codes "at" ∷ ws) s
@@ -329,12 +327,12 @@ node_found undecided [] node h = cc h
 node_found undecided (w ∷ ws) node h = elim (chosen (is_word w (codes "r")) _ _ _ h) [
   | inl x ↦ subst (λ v. IsNodeLine undecided (v ∷ ws) node) (sym (same w (codes "r") x.0)) (evidence_found undecided ws node x.1)
   | inr x ↦ elim (chosen (is_word w (codes "s")) _ _ _ x.1) [
-      | inl y ↦ split_found undecided w ws node (same w (codes "s") y.0) y.1
-      | inr y ↦
-          let (p, q) = passed (is_word w (codes "o") && undecided) _ _ node y.1 in
-          let (word, may) = both (is_word w (codes "o")) undecided p in
-          left_found undecided w ws node (same w (codes "o") word) may q
-    ]
+    | inl y ↦ split_found undecided w ws node (same w (codes "s") y.0) y.1
+    | inr y ↦
+        let (p, q) = passed (is_word w (codes "o") && undecided) _ _ node y.1 in
+        let (word, may) = both (is_word w (codes "o")) undecided p in
+        left_found undecided w ws node (same w (codes "o") word) may q
+  ]
 ]
 
 -- in a tree that may have such a node

@@ -1,10 +1,9 @@
 -- The numbers that words spell, and the words of numbers.
-use Rattle.std.proofs.Common.{◌≡◌, ◌≢◌, ℕ, ◌+◌, ◌-◌, ◌≤◌, ◌<◌, ◌^◌, Bool, true, false, ◌==◌, ◌&&◌, List, [], ◌∷◌, Option, Some, None, cond, length, get_or, ℤ, pos, negsuc, arith, sym, refl, ap, subst, ◌∙◌, decimal, IsUtf8, zero, suc}
-use Rattle.std.specs.Prelude.{nat_eq, nat_lt, unsigned_abs, option_map}
-use Rattle.std.specs.Cmp.Lexicographic.{pointwise, same_text, nat_list_eq_equiv}
+use Rattle.std.proofs.Common.{◌≡◌, ◌≢◌, ℕ, ◌-◌, ◌≤◌, ◌<◌, ◌^◌, Bool, true, false, ◌==◌, ◌&&◌, List, [], ◌∷◌, Option, Some, None, cond, length, get_or, ℤ, pos, negsuc, arith, sym, refl, ap, subst, ◌∙◌, decimal, IsUtf8, zero, suc}
+use Rattle.std.specs.Prelude.{nat_lt, unsigned_abs, option_map}
+use Rattle.std.specs.Cmp.Lexicographic.{same_text, nat_list_eq_equiv}
 use Rattle.std.specs.Fmt.{signed_decimal}
 use Rattle.std.specs.List.{All, list_all}
-use Rattle.std.specs.Int.{IsInRange}
 use Rattle.std.specs.Str.Parse.{AllDigits, digits_value}
 use Rattle.std.proofs.lemmas.Bool.Decides.{nat_tests}
 use Rattle.std.proofs.lemmas.Fmt.{decimal_nonempty, digits_decimal, digits_value-decimal, IsAscii-decimal}
@@ -18,7 +17,7 @@ use Rattle.gd_base.specs.Numerals.{IsNumberIn}
 use Rattle.gd_cert.specs.Bounds.{is_requirement_byte}
 use Rattle.gd_cert.specs.Words.{below_zero, is_requirement, is_word, number_below, signed_number}
 
-own : IsNumeralModel (AllDigits 10) (digits_value 10)
+pub own : IsNumeralModel (AllDigits 10) (digits_value 10)
 own = numerals_by_value (AllDigits 10) tells_digits
 
 pub both : (a b : Bool) → (a && b) ≡ true → (a ≡ true) × (b ≡ true)

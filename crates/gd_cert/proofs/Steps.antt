@@ -1,10 +1,9 @@
 -- One line after the other.
-use Rattle.std.proofs.Common.{◌≡◌, ℕ, ◌+◌, ◌<◌, ◌==◌, List, [], ◌∷◌, length, arith, refl, sym, subst, ◌∙◌, ap}
+use Rattle.std.proofs.Common.{◌≡◌, ℕ, ◌+◌, ◌<◌, ◌==◌, List, [], ◌∷◌, length, arith, sym, ◌∙◌, ap}
 use Rattle.std.specs.Prelude.{Result, Ok, Err}
 use Rattle.std.proofs.lemmas.List.Splits.{length-slice_split}
-use Rattle.gd_cert.specs.Certificates.{Certificate}
 use Rattle.gd_cert.specs.Drafts.{TakesLine}
-use Rattle.gd_cert.specs.Reading.{Draft, Fails, Gives, drafted_from, on_line, with_line}
+use Rattle.gd_cert.specs.Reading.{Draft, Fails, drafted_from, on_line, with_line}
 use Rattle.gd_cert.specs.Words.{and_then_read, pieces, words_of}
 use Rattle.gd_cert.specs.declared.fault.CertFault.{CertFault}
 use Rattle.gd_cert.specs.declared.fault.CertReadFault.{CertReadFault}

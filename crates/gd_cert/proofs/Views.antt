@@ -2,7 +2,7 @@
 use Rattle.std.proofs.Common.{◌≡◌, ℕ, List, [], ◌∷◌, map, ap, refl}
 use Rattle.gd_cert.specs.Certificates.{Body, body_of}
 use Rattle.gd_cert.specs.Drafts.{placed_of}
-use Rattle.gd_cert.specs.Reading.{Placed, bodies_of, lines_of}
+use Rattle.gd_cert.specs.Reading.{bodies_of, lines_of}
 use Rattle.gd_cert.specs.declared.cert.CertGroup.{CertGroup}
 
 pub bodies_in : (groups : List CertGroup) → map (λ (group : CertGroup). body_of group.body) groups ≡ bodies_of (map placed_of groups)

@@ -1,21 +1,18 @@
 -- What is read of a whole file is spelled so, each byte of it.
-use Rattle.std.proofs.Common.{◌≡◌, ℕ, ◌+◌, ◌≤◌, ◌<◌, ◌^◌, ◌==◌, Bool, true, false, List, [], ◌∷◌, ◌++◌, length, map, arith, sym, refl, ap, subst, ◌∙◌, decimal}
+use Rattle.std.proofs.Common.{◌≡◌, ℕ, ◌+◌, List, [], ◌∷◌, ◌++◌, arith, sym, refl, ap, subst, ◌∙◌, decimal}
 use Rattle.std.specs.Prelude.{Result, Ok, Err, codes}
-use Rattle.std.specs.List.{All, flat_map, join_with_byte, slice_split}
+use Rattle.std.specs.List.{flat_map, join_with_byte}
 use Rattle.std.proofs.lemmas.List.{append_assoc, append-nil}
 use Rattle.std.proofs.lemmas.List.Concat.{flat_map-append}
 use Rattle.std.proofs.lemmas.List.Elements.{All-nil}
 use Rattle.std.proofs.lemmas.List.Splits.{join_with_byte-slice_split}
-use Rattle.gd_cert.proofs.Found.{IsDraft, Stepped, body_step, counts_step, group_step, last_place, open_step, reject_step, told_lines, witness_step}
+use Rattle.gd_cert.proofs.Found.{IsDraft, Stepped, counts_step, group_step, last_place, open_step, reject_step, told_lines, witness_step}
 use Rattle.gd_cert.proofs.Lines.{bind_ok, counts_found, heading_found, ok_same, passed, share_found, title_found, told_found, witness_found}
 use Rattle.gd_cert.specs.Bounds.{BodyFits, IsInBounds}
-use Rattle.gd_cert.specs.Certificates.{Certificate}
-use Rattle.gd_cert.specs.Reading.{Draft, at_stage, bodies_of, certificate_in, counts_in, drafted, drafted_from, empty_draft, heading_in, last_fault, lines_of, on_line, reading, share_in, title_in, told_in, unless, with_body, with_line, with_line_at, with_told, witness_in}
+use Rattle.gd_cert.specs.Reading.{Draft, at_stage, bodies_of, certificate_in, counts_in, drafted, drafted_from, empty_draft, heading_in, last_fault, lines_of, on_line, share_in, title_in, told_in, unless, with_body, with_line, with_line_at, witness_in}
 use Rattle.gd_cert.specs.Text.{first_lines, groups_lines, heading_words, line_text, lines, spaced, text, title}
-use Rattle.gd_cert.specs.Words.{and_then_read, pieces, words_of}
-use Rattle.gd_cert.specs.declared.fault.CertFault.{CertFault}
+use Rattle.gd_cert.specs.Words.{pieces, words_of}
 use Rattle.gd_cert.specs.declared.rule.Rule.{Rule}
-use Rattle.gd_cert.specs.declared.rule.Rule.TheVariants as rule
 use Rattle.gd_cert.specs.declared.stage.Stage.{Stage}
 use Rattle.gd_cert.specs.declared.stage.Stage.TheVariants as stage
 
@@ -33,10 +30,15 @@ heading_step line words d e is h =
     let b = is.bounds in
     let u : Draft = record { heading = heading; share = d.share; told = d.told; groups = d.groups; stage = stage.Share; begun = d.begun; tree = d.tree } in
     let after : told_lines stage.Share u ≡ told_lines stage.Heading d ++ words ∷ [] = λ i. title ∷ sym spelling i ∷ [] in
-    subst (Stepped line (told_lines stage.Heading d) words) (ok_same u e made) (after, record {
-      bounds = record { heading = fits; share = b.share; some_told = b.some_told; few_told = b.few_told; count = b.count; groups = b.groups };
-      starts = is.starts; place = last_place line (told_lines stage.Heading d) _ words after is.place; current = is.current;
-    })
+    subst (Stepped line (told_lines stage.Heading d) words) (ok_same u e made) (
+      after,
+      record {
+        bounds = record { heading = fits; share = b.share; some_told = b.some_told; few_told = b.few_told; count = b.count; groups = b.groups };
+        starts = is.starts;
+        place = last_place line (told_lines stage.Heading d) _ words after is.place;
+        current = is.current;
+      },
+    )
 
 share_step : (line : ℕ) (words : List (List ℕ)) (d e : Draft) → IsDraft stage.Share line d → with_line_at stage.Share line words d ≡ Ok e → Stepped line (told_lines stage.Share d) words e
 share_step line words d e is h =
@@ -45,10 +47,15 @@ share_step line words d e is h =
     let b = is.bounds in
     let u : Draft = record { heading = d.heading; share = n; told = d.told; groups = d.groups; stage = stage.Told; begun = d.begun; tree = d.tree } in
     let after : told_lines stage.Told u ≡ told_lines stage.Share d ++ words ∷ [] = λ i. title ∷ heading_words d.heading ∷ sym spelling i ∷ [] in
-    subst (Stepped line (told_lines stage.Share d) words) (ok_same u e made) (after, record {
-      bounds = record { heading = b.heading; share = few; some_told = b.some_told; few_told = b.few_told; count = b.count; groups = b.groups };
-      starts = is.starts; place = last_place line (told_lines stage.Share d) _ words after is.place; current = is.current;
-    })
+    subst (Stepped line (told_lines stage.Share d) words) (ok_same u e made) (
+      after,
+      record {
+        bounds = record { heading = b.heading; share = few; some_told = b.some_told; few_told = b.few_told; count = b.count; groups = b.groups };
+        starts = is.starts;
+        place = last_place line (told_lines stage.Share d) _ words after is.place;
+        current = is.current;
+      },
+    )
 
 told_step : (line : ℕ) (words : List (List ℕ)) (d e : Draft) → IsDraft stage.Told line d → with_line_at stage.Told line words d ≡ Ok e → Stepped line (told_lines stage.Told d) words e
 told_step line words d e is h =
@@ -57,11 +64,16 @@ told_step line words d e is h =
     let b = is.bounds in
     let u : Draft = record { heading = d.heading; share = d.share; told = n; groups = d.groups; stage = stage.Group; begun = d.begun; tree = d.tree } in
     let after : told_lines stage.Group u ≡ told_lines stage.Told d ++ words ∷ [] =
-      λ i. title ∷ heading_words d.heading ∷ (codes "share" ∷ decimal d.share ∷ []) ∷ sym spelling i ∷ groups_lines 1 (bodies_of (is.current.1 i)) in
-    subst (Stepped line (told_lines stage.Told d) words) (ok_same u e made) (after, record {
-      bounds = record { heading = b.heading; share = b.share; some_told = some; few_told = few; count = b.count; groups = b.groups };
-      starts = is.starts; place = last_place line (told_lines stage.Told d) _ words after is.place; current = is.current.0;
-    })
+    λ i. title ∷ heading_words d.heading ∷ (codes "share" ∷ decimal d.share ∷ []) ∷ sym spelling i ∷ groups_lines 1 (bodies_of (is.current.1 i)) in
+    subst (Stepped line (told_lines stage.Told d) words) (ok_same u e made) (
+      after,
+      record {
+        bounds = record { heading = b.heading; share = b.share; some_told = some; few_told = few; count = b.count; groups = b.groups };
+        starts = is.starts;
+        place = last_place line (told_lines stage.Told d) _ words after is.place;
+        current = is.current.0;
+      },
+    )
 
 -- ---- each line
 
@@ -131,7 +143,8 @@ join_step before piece words_text rest is =
 last_spelled : (line : ℕ) (d e : Draft) (piece : List ℕ) → IsDraft d.stage line d → (d.stage ≡ stage.Done) × (piece ≡ []) × (d ≡ e) → Spelled (told_text d) (piece ∷ []) e
 last_spelled line d e piece is (at, none, same) =
     subst (Spelled (flat_map line_text (told_lines d.stage d)) (piece ∷ [])) same (record {
-      bounds = is.bounds; starts = is.starts;
+      bounds = is.bounds;
+      starts = is.starts;
       spelling = (λ i. flat_map line_text (told_lines (at i) d) ++ none i) ∙ append-nil (flat_map line_text (told_lines stage.Done d));
     })
 
@@ -143,19 +156,22 @@ pieces_spelled line d e (piece ∷ next ∷ rest) is h =
     let (after, draft) = step line (words_of piece) d u is (on_ok line _ u taken) in
     let later = pieces_spelled (line + 1) u e (next ∷ rest) draft more in
     record {
-      bounds = later.bounds; starts = later.starts;
+      bounds = later.bounds;
+      starts = later.starts;
       spelling =
-        sym (
+          sym (
           ap (λ (ls : List (List (List ℕ))). flat_map line_text ls ++ join_with_byte 10 (next ∷ rest)) after
           ∙ ap (λ (bs : List ℕ). bs ++ join_with_byte 10 (next ∷ rest)) (flat_map-append line_text (told_lines d.stage d) (words_of piece ∷ []))
           ∙ join_step (flat_map line_text (told_lines d.stage d)) piece (line_text (words_of piece)) (join_with_byte 10 (next ∷ rest)) (line_again piece)
-        ) ∙ later.spelling;
+          ) ∙ later.spelling;
     }
 
 fresh : IsDraft stage.Title 1 empty_draft
 fresh = record {
   bounds = record { heading = tt; share = omega arith; some_told = omega arith; few_told = omega arith; count = omega arith; groups = All-nil BodyFits };
-  starts = refl; place = refl; current = (refl, refl);
+  starts = refl;
+  place = refl;
+  current = (refl, refl);
 }
 
 -- what is read of bytes is spelled by all of them
