@@ -58,27 +58,14 @@ certificate_in d = record { heading = d.heading; share = d.share; told = d.told;
 
 -- the group that was begun is whole
 abbrev pub with_body : Body → Draft → Draft
-with_body body d = record {
-  heading = d.heading;
-  share = d.share;
-  told = d.told;
-  groups = d.groups ++ record { line = d.begun; body = body } ∷ [];
-  stage = stage.Group;
-  begun = d.begun;
-  tree = d.tree;
-}
+with_body body d = record d { groups = d.groups ++ record { line = d.begun; body = body } ∷ []; stage = stage.Group }
+
+abbrev pub without_tree : Draft → Draft
+without_tree d = record d { tree = [] }
 
 -- and its tree is in it
 abbrev pub with_tree_in : Body → Draft → Draft
-with_tree_in body d = record {
-  heading = d.heading;
-  share = d.share;
-  told = d.told;
-  groups = d.groups ++ record { line = d.begun; body = body } ∷ [];
-  stage = stage.Group;
-  begun = d.begun;
-  tree = [];
-}
+with_tree_in body d = with_body body (without_tree d)
 
 -- `gdcert 1`
 abbrev pub title_in : List (List ℕ) → Bool
@@ -202,26 +189,26 @@ ends_tree [] = false
 ends_tree (word ∷ words) = is_word word (codes "group") || is_word word (codes "end")
 
 abbrev pub at_stage : Stage → Draft → Draft
-at_stage s d = record { heading = d.heading; share = d.share; told = d.told; groups = d.groups; stage = s; begun = d.begun; tree = d.tree }
+at_stage s d = record d { stage = s }
 
 abbrev pub with_title : List (List ℕ) → Draft → Result Draft Rule
 with_title words d = if title_in words then Ok (at_stage stage.Heading d) else Err rule.Title
 
 abbrev pub with_heading : List (List ℕ) → Draft → Result Draft Rule
 with_heading words d = and_then_read (heading_in words) (λ h.
-    Ok (record { heading = h; share = d.share; told = d.told; groups = d.groups; stage = stage.Share; begun = d.begun; tree = d.tree }))
+    Ok (record d { heading = h; stage = stage.Share }))
 
 abbrev pub with_share : List (List ℕ) → Draft → Result Draft Rule
 with_share words d = and_then_read (share_in words) (λ n.
-    Ok (record { heading = d.heading; share = n; told = d.told; groups = d.groups; stage = stage.Told; begun = d.begun; tree = d.tree }))
+    Ok (record d { share = n; stage = stage.Told }))
 
 abbrev pub with_told : List (List ℕ) → Draft → Result Draft Rule
 with_told words d = and_then_read (told_in words) (λ n.
-    Ok (record { heading = d.heading; share = d.share; told = n; groups = d.groups; stage = stage.Group; begun = d.begun; tree = d.tree }))
+    Ok (record d { told = n; stage = stage.Group }))
 
 abbrev pub with_group : ℕ → List (List ℕ) → Draft → Result Draft Rule
 with_group line words d = and_then_read (group_in (length d.groups + 1) words) (λ s.
-    Ok (record { heading = d.heading; share = d.share; told = d.told; groups = d.groups; stage = s; begun = line; tree = d.tree }))
+    Ok (record d { stage = s; begun = line }))
 
 abbrev pub with_witness : List (List ℕ) → Draft → Result Draft Rule
 with_witness words d = and_then_read (witness_in words) (λ body. Ok (with_body body d))
@@ -231,7 +218,7 @@ with_counts words d = and_then_read (counts_in words) (λ s. Ok (at_stage s d))
 
 abbrev pub with_node : Bool → List (List ℕ) → Draft → Result Draft Rule
 with_node undecided words d = and_then_read (node_in undecided words) (λ node.
-    Ok (record { heading = d.heading; share = d.share; told = d.told; groups = d.groups; stage = d.stage; begun = d.begun; tree = d.tree ++ node ∷ [] }))
+    Ok (record d { tree = d.tree ++ node ∷ [] }))
 
 -- one more line of a tree, or the line that ends it
 abbrev pub with_tree_line : ℕ → List (List ℕ) → Bool → Body → Draft → Result Draft Rule

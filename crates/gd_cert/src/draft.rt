@@ -1,8 +1,8 @@
 // A certificate as far as its lines were read.
-ghost use Rattle.std.specs.Prelude.{◌≡◌, Ok, OnOk, false, true, map};
-ghost use Rattle.gd_cert.specs.Certificates.{Open, Reject, body_of, certificate_of};
+ghost use Rattle.std.specs.Prelude.{◌≡◌, OnOk, false, true, map};
+ghost use Rattle.gd_cert.specs.Certificates.{body_of, certificate_of};
 ghost use Rattle.gd_cert.specs.Drafts.{Takes, draft_of, texts};
-ghost use Rattle.gd_cert.specs.Reading.{certificate_in, empty_draft, last_fault, lines_of, with_body, with_counts, with_group, with_heading, with_line, with_node, with_share, with_title, with_told, with_tree_in, with_tree_line, with_witness};
+ghost use Rattle.gd_cert.specs.Reading.{certificate_in, empty_draft, last_fault, lines_of, with_body, with_counts, with_group, with_heading, with_line, with_node, with_share, with_title, with_told, with_witness, without_tree};
 ghost use Rattle.gd_cert.specs.declared.cert.CertGroup.{CertGroup};
 
 use crate::cert::{Cert, CertBody, CertGroup, Head};
@@ -12,7 +12,7 @@ use crate::line::{
 };
 use crate::rule::{LineFault, Rule};
 use crate::stage::Stage;
-use gd_base::{Memory, Reason};
+use gd_base::Memory;
 use gd_cells::Node;
 use std::alloc::Global;
 use std::mem;
@@ -63,13 +63,32 @@ impl CertDraft {
             Stage::Group => self.take_group(line, words),
             Stage::Witness => self.take_witness(alloc, words),
             Stage::Counts => self.take_counts(words),
-            Stage::Reject => self.take_reject_line(alloc, line, words),
+            Stage::Reject => {
+                if !is_behind_tree(words) {
+                    return self.take_node(false, words);
+                }
+                let tree = self.whole_tree(alloc);
+                self.take_behind(CertBody::Reject { tree }, line, words)
+            }
             Stage::Open {
                 level,
                 undecided,
                 spent,
                 reason,
-            } => self.take_open_line(alloc, line, words, level, undecided, spent, reason),
+            } => {
+                if !is_behind_tree(words) {
+                    return self.take_node(true, words);
+                }
+                let tree = self.whole_tree(alloc);
+                let body = CertBody::StillOpen {
+                    level,
+                    undecided,
+                    spent,
+                    reason,
+                    tree,
+                };
+                self.take_behind(body, line, words)
+            }
             Stage::Done => Err(LineFault::Rule(Rule::Behind)),
         }
     }
@@ -131,45 +150,19 @@ impl CertDraft {
         Ok(())
     }
 
-    fn take_reject_line(
-        &mut self,
-        alloc: Global,
-        line: u32,
-        words: &[&[u8]],
-    ) -> Result<(), LineFault>
-        ensures { Takes (draft_of self.new) result (with_tree_line line (texts words.now) false (Reject self.old.tree.items) (draft_of self.old)) }
+    // The lines of the tree, which is whole.
+    fn whole_tree(&mut self, alloc: Global) -> Vec<Node>
+        ensures tree { result.items ≡ self.old.tree.items }
+        ensures without { draft_of self.new ≡ without_tree (draft_of self.old) }
     {
-        if !is_behind_tree(words) {
-            return self.take_node(false, words);
-        }
-        let tree = mem::replace(&mut self.tree, Vec::new(alloc));
-        self.add_body(CertBody::Reject { tree })?;
-        self.take_group(line, words)
+        mem::replace(&mut self.tree, Vec::new(alloc))
     }
 
-    fn take_open_line(
-        &mut self,
-        alloc: Global,
-        line: u32,
-        words: &[&[u8]],
-        level: u32,
-        undecided: u32,
-        spent: u32,
-        reason: Reason,
-    ) -> Result<(), LineFault>
-        ensures { Takes (draft_of self.new) result (with_tree_line line (texts words.now) true (Open level undecided spent reason self.old.tree.items) (draft_of self.old)) }
+    // Takes the line behind a group that is whole.
+    fn take_behind(&mut self, body: CertBody, line: u32, words: &[&[u8]]) -> Result<(), LineFault>
+        ensures { Takes (draft_of self.new) result (with_group line (texts words.now) (with_body (body_of body) (draft_of self.old))) }
     {
-        if !is_behind_tree(words) {
-            return self.take_node(true, words);
-        }
-        let tree = mem::replace(&mut self.tree, Vec::new(alloc));
-        self.add_body(CertBody::StillOpen {
-            level,
-            undecided,
-            spent,
-            reason,
-            tree,
-        })?;
+        self.add_body(body)?;
         self.take_group(line, words)
     }
 
