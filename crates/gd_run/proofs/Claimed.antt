@@ -25,7 +25,9 @@ use Rattle.gd_form.specs.Laws.Task.{flat_centre_in_range, flat_centre_names_plac
 use Rattle.gd_points.specs.Points.{points}
 use Rattle.gd_points.specs.Table.{Table}
 use Rattle.gd_points.specs.declared.table.Row.{Row}
-use Rattle.gd_run.proofs.Pending.{flat_right, flat_text_is_short, flat_true, flat_verdict_is_right, reading_again, reading_takes, right_flat}
+use Rattle.gd_cert.proofs.Again.{reading_again}
+use Rattle.gd_cert.proofs.Whole.{reading_takes}
+use Rattle.gd_run.proofs.Certified.{end_in_bounds, end_is_short, flat_right, flat_true, flat_verdict_is_right, right_flat}
 use Rattle.gd_run.proofs.Reported.{held_of, is_short, not_long}
 use Rattle.gd_points.proofs.Tables.{table_has_few, table_has_row}
 use Rattle.gd_run.specs.Answers.{Answer, IsAnswer, IsAnswerTo, IsCheckAnswerOfTable, IsFlatAnswerOfTable, Said, Store, certificate_of_end, checked, invalid, is_long, only_said, refusal, said_of, said_of_certificate, said_of_reading, said_of_wrong, stores_to, too_long}
@@ -47,15 +49,10 @@ reject_is_flat_nowhere rows tolerance budget leaves tree some verdict axis n fla
     rejects (questions_of rows tolerance) (IsFeasible rows tolerance) IsInside (flat_roots_cover rows tolerance) (flat_halves_cover rows tolerance) (flat_first_refutes rows tolerance some) (flat_refuted_is_empty rows tolerance) budget leaves tree verdict (assignment_of axis n) flat
 
 -- ---- the certificate of a verdict
-pub end_in_bounds : (rows : List Row) (tolerance budget : ℕ) (e : End) → 0 < length rows → length rows ≤ 200000 → budget ≤ 1000000 → IsVerdict (questions_of rows tolerance) budget e → IsInBounds (certificate_of_end (questions_of rows tolerance) budget e)
-end_in_bounds rows tolerance budget e some few small verdict =
-    let fits : BodyFits (body_of_end (questions_of rows tolerance) e) = (flat_verdict_is_right rows tolerance some few budget e small verdict).1 in
-    record { heading = tt; share = small; some_told = omega arith; few_told = omega arith; count = omega arith; groups = All-cons BodyFits (body_of_end (questions_of rows tolerance) e) [] fits (All-nil BodyFits) }
-
 end_is_valid : (rows : List Row) (tolerance budget : ℕ) (e : End) → 0 < length rows → length rows ≤ 200000 → budget ≤ 1000000 → IsVerdict (questions_of rows tolerance) budget e
     → IsValidFor (questions_of rows tolerance) (text (certificate_of_end (questions_of rows tolerance) budget e))
 end_is_valid rows tolerance budget e some few small verdict = record {
-  short = flat_text_is_short rows tolerance budget some few e small verdict;
+  short = end_is_short rows tolerance budget e some few small verdict;
   certificate = certificate_of_end (questions_of rows tolerance) budget e;
   fits = end_in_bounds rows tolerance budget e some few small verdict;
   spelled = refl;
@@ -64,10 +61,10 @@ end_is_valid rows tolerance budget e some few small verdict = record {
 }
 
 -- ---- what a check says
-says_of : (rows : List Row) (tolerance budget : ℕ) (b : Body) → 0 < length rows → length rows ≤ 200000 → IsRightBody (questions_of rows tolerance) budget b → SaysOfPoints rows tolerance budget b
-says_of rows tolerance budget (Accept root at) some few right = flat_true rows tolerance some few budget (Accept root at) right
-says_of rows tolerance budget (Reject lines) some few right = λ axis n flat. flat_true rows tolerance some few budget (Reject lines) right (assignment_of axis n) flat
-says_of rows tolerance budget (certificates.Open level u s why lines) some few right = flat_true rows tolerance some few budget (certificates.Open level u s why lines) right
+says_of : (rows : List Row) (tolerance budget : ℕ) (b : Body) → IsRightBody (questions_of rows tolerance) budget b → SaysOfPoints rows tolerance budget b
+says_of rows tolerance budget (Accept root at) right = flat_true rows tolerance budget (Accept root at) right
+says_of rows tolerance budget (Reject lines) right = λ axis n flat. flat_true rows tolerance budget (Reject lines) right (assignment_of axis n) flat
+says_of rows tolerance budget (certificates.Open level u s why lines) right = flat_true rows tolerance budget (certificates.Open level u s why lines) right
 
 -- the one group of a right certificate of one task
 record OneGroup (q : Questions) (c : Certificate) : Type 0 where
@@ -104,23 +101,23 @@ checked_zero : (q : Questions) (bytes : List ℕ) (long : Bool) → is_long byte
 checked_zero q bytes true is zero = absurd (omega (arith, zero))
 checked_zero q bytes false is zero = checked_reading q bytes (not_long bytes is) (reading bytes) refl zero
 
-valid_is_said : (rows : List Row) (tolerance : ℕ) → 0 < length rows → length rows ≤ 200000 → (bytes : List ℕ) → IsValidFor (questions_of rows tolerance) bytes → (checked (questions_of rows tolerance) bytes).status ≡ 0
-valid_is_said rows tolerance some few bytes v =
+valid_is_said : (rows : List Row) (tolerance : ℕ) → 0 < length rows → (bytes : List ℕ) → IsValidFor (questions_of rows tolerance) bytes → (checked (questions_of rows tolerance) bytes).status ≡ 0
+valid_is_said rows tolerance some bytes v =
     let q : Questions = questions_of rows tolerance in
     let read : reading bytes ≡ Ok v.certificate = ap reading v.spelled ∙ reading_again v.certificate v.fits in
-    let none : first_wrong (q ∷ []) v.certificate ≡ None = right_flat rows tolerance some few v.certificate v.right in
+    let none : first_wrong (q ∷ []) v.certificate ≡ None = right_flat rows tolerance some v.certificate v.right in
     rw (is_short bytes v.short, read, v.plain, none) refl
 
-true_for : (rows : List Row) (tolerance : ℕ) → 0 < length rows → length rows ≤ 200000 → (bytes : List ℕ) → Checked (questions_of rows tolerance) bytes → IsTrueFor rows tolerance bytes
-true_for rows tolerance some few bytes ch =
+true_for : (rows : List Row) (tolerance : ℕ) → 0 < length rows → (bytes : List ℕ) → Checked (questions_of rows tolerance) bytes → IsTrueFor rows tolerance bytes
+true_for rows tolerance some bytes ch =
     let takes = reading_takes bytes ch.certificate ch.read in
-    let right : IsRight (questions_of rows tolerance ∷ []) ch.certificate = flat_right rows tolerance some few ch.certificate ch.none in
+    let right : IsRight (questions_of rows tolerance ∷ []) ch.certificate = flat_right rows tolerance some ch.certificate ch.none in
     let one : OneGroup (questions_of rows tolerance) ch.certificate = one_group (questions_of rows tolerance) ch.certificate ch.certificate.groups refl right.groups in
     record {
       valid = record { short = ch.short; certificate = ch.certificate; fits = takes.0; spelled = takes.1; plain = ch.plain; right = right };
       group = one.group;
       only = one.only;
-      says = says_of rows tolerance ch.certificate.share one.group some few one.right;
+      says = says_of rows tolerance ch.certificate.share one.group one.right;
     }
 
 -- ---- words are of one command at most
@@ -129,6 +126,9 @@ same_option None None h = refl
 same_option None (Some y) h = cc
 same_option (Some x) None h = cc
 same_option (Some x) (Some y) h = cc
+
+abbrev flat_with : List ℕ → ℕ → ℕ → Option (List ℕ) → Flat
+flat_with points tolerance budget certificate = record { points = points; tolerance = tolerance; budget = budget; certificate = certificate }
 
 same_flat : (words : List (List ℕ)) (a b : Flat) → IsFlatCommand words a → IsFlatCommand words b → a ≡ b
 same_flat words a b x y =
@@ -140,7 +140,10 @@ same_flat words a b x y =
     let tolerance : a.tolerance ≡ b.tolerance = decimal_injective a.tolerance b.tolerance (omega (arith, x.tolerance.range)) (omega (arith, y.tolerance.range)) (sym x.tolerance.spelled ∙ t ∙ y.tolerance.spelled) in
     let budget : a.budget ≡ b.budget = decimal_injective a.budget b.budget (omega (arith, x.budget.range)) (omega (arith, y.budget.range)) (sym x.budget.spelled ∙ u ∙ y.budget.spelled) in
     let certificate : a.certificate ≡ b.certificate = same_option a.certificate b.certificate v in
-    cc
+    ap (λ p. flat_with p a.tolerance a.budget a.certificate) points
+    ∙ ap (λ n. flat_with b.points n a.budget a.certificate) tolerance
+    ∙ ap (λ n. flat_with b.points b.tolerance n a.certificate) budget
+    ∙ ap (flat_with b.points b.tolerance b.budget) certificate
 
 no_check : (words : List (List ℕ)) (a : Flat) (c : Check) → IsFlatCommand words a → IsCheckCommand words c → ⊥
 no_check words a c x y =
@@ -251,15 +254,14 @@ check_means words files c part bytes command held said is =
     let rows : List Row = part.table.rows in
     let q : Questions = questions_of rows c.tolerance in
     let some = table_has_row part.bytes part.table part.read in
-    let few = table_has_few part.bytes part.table part.read in
     let status : said.status ≡ (checked q bytes).status = ap (λ (s : Said). s.status) is in
     let printed : said.text ≡ (checked q bytes).text = ap (λ (s : Said). s.text) is in
     record {
-      zero = λ h. inr (record { check = c; command = command; part = part; bytes = bytes; held = held; true = true_for rows c.tolerance some few bytes (checked_zero q bytes (is_long bytes) refl (sym status ∙ h)); text = printed ∙ checked_valid q bytes (is_long bytes) (sym status ∙ h) });
+      zero = λ h. inr (record { check = c; command = command; part = part; bytes = bytes; held = held; true = true_for rows c.tolerance some bytes (checked_zero q bytes (is_long bytes) refl (sym status ∙ h)); text = printed ∙ checked_valid q bytes (is_long bytes) (sym status ∙ h) });
       one = λ h. absurd (checked_not_one q bytes (is_long bytes) (sym status ∙ h));
       eight = λ h.
           let t : TellsLine (checked q bytes) = checked_tells q bytes (is_long bytes) (sym status ∙ h) in
-          record { check = c; command = command; part = part; bytes = bytes; held = held; wrong = λ v. absurd (omega (arith, valid_is_said rows c.tolerance some few bytes v, status, h)); line = t.line; code = t.code; text = printed ∙ t.text };
+          record { check = c; command = command; part = part; bytes = bytes; held = held; wrong = λ v. absurd (omega (arith, valid_is_said rows c.tolerance some bytes v, status, h)); line = t.line; code = t.code; text = printed ∙ t.text };
     }
 
 check_read_means : (words : List (List ℕ)) (files : Files) (c : Check) (bytes : List ℕ) → IsCheckCommand words c → files c.points ≡ Some bytes → (read : Result Table InputFault) → points bytes ≡ read → (a : Answer) → IsCheckAnswerOfTable c files read a → Means words files a.said

@@ -1,5 +1,5 @@
 pub mod Claimed
 pub mod FiveWords
 pub mod Moved
-pub mod Pending
+pub mod Certified
 pub mod Reported

@@ -83,6 +83,17 @@ ends_in_fault words old mid new failed before now (Err stop.Memory) same is word
 ends_in_fault words old mid new failed before now (Err stop.Memory) same is word kept (inr (inl put)) = absurd put
 ends_in_fault words old mid new failed before now (Err stop.Memory) same is word kept (inr (inr put)) = absurd put
 
+-- where a file could not be read, nothing was stored after it
+pub kept_word : (answer : Result Report Stop) (R : Type 0) (mid new : Word) → (IsUnreadAnd (λ w. Unit {0}) answer → new ≡ mid) → OnReport (λ r. Unit {0}) (λ w. R × IsWord mid w false) answer → OnReport (λ r. Unit {0}) (λ w. IsWord new w false) answer
+kept_word (Ok r) R mid new same word = tt
+kept_word (Err (stop.Unread w)) R mid new same word = subst (λ f. IsWord f w.now false) (sym (same tt)) word.1
+kept_word (Err stop.Memory) R mid new same word = tt
+
+pub kept_files : (answer : Result Report Stop) (mid new : Files) → (IsUnreadAnd (λ w. Unit {0}) answer → new ≡ mid) → OnReport (λ r. Unit {0}) (λ w. SameFiles mid new) answer
+kept_files (Ok r) mid new same = tt
+kept_files (Err (stop.Unread w)) mid new same = λ name. ap (λ (f : Files). f name) (same tt)
+kept_files (Err stop.Memory) mid new same = tt
+
 -- ---- want of memory
 no_more : (ss : List Store) → ss ≡ ss ++ []
 no_more [] = refl
