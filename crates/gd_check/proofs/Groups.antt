@@ -1,12 +1,9 @@
 -- A group without a wrong line is right, and a right one has none.
-use Rattle.std.proofs.Common.{arith, ◌≡◌, refl, sym, ap, ◌∙◌, ℕ, zero, suc, ◌+◌, ◌*◌, ◌-◌, ◌<◌, ◌≤◌, Bool, true, false, ◌&&◌, cond, nat_eq, Option, Some, None, List, [], ◌∷◌, ◌++◌, length, ℤ}
+use Rattle.std.proofs.Common.{arith, ◌≡◌, refl, ℕ, suc, ◌+◌, ◌*◌, ◌<◌, ◌≤◌, Bool, true, false, ◌&&◌, cond, nat_eq, Option, Some, None, List, [], ◌∷◌, length, ℤ}
 use Rattle.std.proofs.lemmas.Bool.Decides.{nat_tests}
-use Rattle.gd_base.specs.declared.verdict.Reason.{Reason}
 use Rattle.gd_cells.proofs.Cells.{level_at}
 use Rattle.gd_cells.specs.Laws.{FirstRefutes, IsGrid, NoneRefutes}
 use Rattle.gd_cells.specs.Meaning.{Questions, cell_of}
-use Rattle.gd_cells.specs.declared.cell.Cell.{Cell}
-use Rattle.gd_cells.specs.declared.cell.Evidence.{Evidence}
 use Rattle.gd_cells.specs.declared.node.Node.{Node}
 use Rattle.gd_cert.specs.Certificates.{Body, Accept, Reject, Open}
 use Rattle.gd_cert.specs.Reading.{fault}

@@ -1,10 +1,10 @@
 -- What a right certificate says of the assignments of its tasks.
-use Rattle.std.proofs.Common.{arith, ◌≡◌, refl, ℕ, zero, suc, ◌+◌, ◌*◌, ◌^◌, ◌<◌, ◌≤◌, List, [], ◌∷◌, length, map, ℤ, inl, inr, pow-suc}
+use Rattle.std.proofs.Common.{arith, ◌≡◌, refl, ℕ, suc, ◌+◌, ◌*◌, ◌^◌, ◌<◌, ◌≤◌, List, [], ◌∷◌, length, map, ℤ, inl, inr, pow-suc}
 use Rattle.std.proofs.lemmas.Bool.{cases_lt}
 use Rattle.std.proofs.lemmas.List.Elements.{All-head, All-tail}
 use Rattle.std.specs.List.{All}
 use Rattle.gd_cells.specs.Laws.{HalvesCover, HasRoot, HoldsIsFeasible, RefutedIsEmpty, RootsCover}
-use Rattle.gd_cells.specs.Meaning.{IsCell, Questions, cell_of}
+use Rattle.gd_cells.specs.Meaning.{Questions, cell_of}
 use Rattle.gd_cells.specs.declared.cell.Cell.{Cell}
 use Rattle.gd_cells.specs.declared.cell.Witness.{Witness}
 use Rattle.gd_cert.specs.Certificates.{Body, Accept, Reject, Open}

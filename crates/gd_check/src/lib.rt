@@ -4,6 +4,7 @@
 mod answer;
 mod decide;
 mod group;
+mod laws;
 mod rule;
 #[cfg(test)]
 mod tests;
@@ -11,4 +12,5 @@ mod tree;
 
 pub use answer::CheckAnswer;
 pub use decide::check;
+pub use laws::show_verdict_is_right;
 pub use rule::Rule;

@@ -5,8 +5,8 @@ ghost use Rattle.gd_check.specs.Rules.{code_of};
 
 use gd_cert::CertFault;
 
-/// What a line of a right certificate keeps (`docs/FORMATS.md`, "Certificate"). Where it breaks several, the first in this order counts for the
-/// counts of the groups, for a line of a tree and for a witness alike: `LastLevel` before `Open`, `Place` before `Witness`.
+/// What the lines of a right certificate keep (docs/FORMATS.md, "Certificate").
+/// Where the line of a cell breaks two rules, `LastLevel` is told before `Open`; where a witness does, `Place` before `Witness`.
 #[derive(Clone, Copy, Debug, PartialEq, Eq)]
 pub enum Rule {
     /// The evidence refutes its cell.
@@ -21,8 +21,8 @@ pub enum Rule {
     NoCell,
     /// There are as many groups as tasks, and as the fourth line tells.
     Groups,
-    /// Of a reject no cell is left. Of an open group the halved cells lie above its level, the cells that are left at it, nothing decides either, and its counts and its
-    /// reason are those of the verdict.
+    /// A reject leaves no cell undecided. An open group leaves the cells that nothing refutes and whose centres don't hold, at its level
+    /// alone, and halves such cells above it; its counts and its reason are those of the verdict for the budget.
     Open,
     /// No cell of the last level is halved.
     LastLevel,

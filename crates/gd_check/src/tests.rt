@@ -120,35 +120,83 @@ fn tree_lines(alloc: Global, letters: &str) -> Result<String, AllocError> {
     Ok(lines)
 }
 
+// The line and the code of what is wrong with a certificate of one group: 0 and 0 where it is valid, and none where its text isn't read.
+fn wrong(
+    alloc: Global,
+    toy: Toy,
+    told: u32,
+    group: &str,
+    letters: &str,
+) -> Result<Option<(u32, u32)>, Fail> {
+    let lines = tree_lines(alloc, letters)?;
+    let text = format!(in alloc;
+        "gdcert 1\nplain\nshare 3\ngroups {told}\ngroup 1 {group}\n{lines}end\n"
+    )?;
+    if text.len() > 1000 {
+        return Ok(None);
+    }
+    let Ok(cert) = read_cert(alloc, text.as_bytes()) else {
+        return Ok(None);
+    };
+    match check(alloc, &[toy], &cert)? {
+        CheckAnswer::Valid => Ok(Some((0, 0))),
+        CheckAnswer::Invalid { line, code } => Ok(Some((line, code))),
+    }
+}
+
 #[test]
-fn answers(rt: HostRuntime) -> Result<(), Fail> {
-    let alloc = rt.alloc();
-    let wrong = |line, code| CheckAnswer::Invalid { line, code };
-    let valid = CheckAnswer::Valid;
-    // the name; the task; the number of groups that the fourth line tells; the lines from the fifth on; the letters of a tree; the answer
+fn accepts(rt: HostRuntime) -> Result<(), Fail> {
     let cases = [
-        ("a witness holds", true, 0, 1, "group 1 accept\nw 1 1 0\n", "", valid),
-        ("it doesn't hold", true, 0, 1, "group 1 accept\nw 1 0 0\n", "", wrong(6, 51)),
-        ("a number too many", true, 0, 1, "group 1 accept\nw 1 0 0 0\n", "", wrong(6, 52)),
-        ("all refuted", false, 2, 1, "group 1 reject\n", "srrssrrsrr", valid),
-        ("not refuted there", false, 2, 1, "group 1 reject\n", "srrsrr", wrong(10, 50)),
-        ("a root without a line", false, 2, 1, "group 1 reject\n", "srr", wrong(9, 53)),
-        ("a line too many", false, 1, 1, "group 1 reject\n", "srrsrrr", wrong(12, 54)),
-        ("a group too few", false, 1, 2, "group 1 reject\n", "srrsrr", wrong(4, 55)),
-        ("undecided", false, 2, 1, "group 1 open\nat 1 2 2 budget\n", "srrsoo", valid),
-        ("a wrong count", false, 2, 1, "group 1 open\nat 1 2 1 budget\n", "srrsoo", wrong(6, 56)),
-        ("a cell is refuted", false, 1, 1, "group 1 open\nat 1 2 2 budget\n", "srrsoo", wrong(11, 56)),
-        ("the grid ends", false, 9, 1, "group 1 reject\n", "srrssss", wrong(12, 57)),
+        ("it holds", "accept\nw 1 1 0", (0, 0)),
+        ("it doesn't", "accept\nw 1 0 0", (6, 51)),
+        ("three numbers", "accept\nw 1 0 0 0", (6, 52)),
     ];
-    for (name, shows, depth, told, group, letters, want) in cases {
-        let lines = tree_lines(alloc, letters)?;
-        let text = format!(in alloc; "gdcert 1\nplain\nshare 3\ngroups {told}\n{group}{lines}end\n")?;
-        assert!(rt; text.len() < 1000);
-        let tasks = [Toy { shows, depth }];
-        match read_cert(alloc, text.as_bytes()) {
-            Ok(cert) => assert_eq!(rt; check(alloc, &tasks, &cert)?, want, "{name}"),
-            Err(_) => panic!(rt; "{name} is read"),
-        }
+    for (name, group, want) in cases {
+        let toy = Toy {
+            shows: true,
+            depth: 0,
+        };
+        let got = wrong(rt.alloc(), toy, 1, group, "")?;
+        assert_eq!(rt; got, Some(want), "{name}");
+    }
+    Ok(())
+}
+
+#[test]
+fn rejects(rt: HostRuntime) -> Result<(), Fail> {
+    let cases = [
+        ("all refuted", 2, 1, "srrssrrsrr", (0, 0)),
+        ("not refuted there", 2, 1, "srrsrr", (10, 50)),
+        ("no line of a root", 2, 1, "srr", (9, 53)),
+        ("no cell of a line", 1, 1, "srrsrrr", (12, 54)),
+        ("no second group", 1, 2, "srrsrr", (4, 55)),
+        ("the grid ends", 9, 1, "srrssss", (12, 57)),
+    ];
+    for (name, depth, told, letters, want) in cases {
+        let toy = Toy {
+            shows: false,
+            depth,
+        };
+        let got = wrong(rt.alloc(), toy, told, "reject", letters)?;
+        assert_eq!(rt; got, Some(want), "{name}");
+    }
+    Ok(())
+}
+
+#[test]
+fn opens(rt: HostRuntime) -> Result<(), Fail> {
+    let cases = [
+        ("undecided", 2, "open\nat 1 2 2 budget", (0, 0)),
+        ("a count", 2, "open\nat 1 2 1 budget", (6, 56)),
+        ("refuted", 1, "open\nat 1 2 2 budget", (11, 56)),
+    ];
+    for (name, depth, group, want) in cases {
+        let toy = Toy {
+            shows: false,
+            depth,
+        };
+        let got = wrong(rt.alloc(), toy, 1, group, "srrsoo")?;
+        assert_eq!(rt; got, Some(want), "{name}");
     }
     Ok(())
 }

@@ -1,12 +1,10 @@
-use Rattle.std.proofs.Common.{◌≡◌, sym, ap, ◌∙◌, map}
+use Rattle.std.proofs.Common.{◌∙◌, map}
 use Rattle.std.proofs.lemmas.List.Elements.{All-map}
 use Rattle.std.specs.List.{All}
 use Rattle.gd_cert.specs.Certificates.{certificate_of}
 use Rattle.gd_check.proofs.Groups.{Keeps}
 use Rattle.gd_check.proofs.Meant.{Judges, bodies_true}
 use Rattle.gd_check.proofs.Wholes.{valid_exactly}
-use Rattle.gd_check.specs.Answers.{answer_of}
-use Rattle.gd_check.specs.Wrong.{first_wrong}
 use Rattle.gd_check.proofs.decide.check.Goals as goal
 
 pub returns-clause-valid : goal.returns-clause-valid
