@@ -8,6 +8,8 @@ pub mod laws;
 mod line;
 mod number;
 mod read;
+#[cfg(test)]
+mod read_tests;
 mod rule;
 mod stage;
 mod word;
