@@ -7,3 +7,4 @@ pub mod Found
 pub mod Whole
 pub mod Split
 pub mod Again
+pub mod Alike
