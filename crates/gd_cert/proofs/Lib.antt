@@ -10,3 +10,4 @@ pub mod Found
 pub mod Whole
 pub mod Split
 pub mod Again
+pub mod Alike

@@ -2,7 +2,7 @@
 use Rattle.std.specs.Prelude.{ℕ, ◌≡◌, ◌<◌, List, [], ◌∷◌, Option, Some, None, Result, Ok, Err, length, map}
 use Rattle.std.specs.Borrow.{Bor}
 use Rattle.gd_cert.specs.Certificates.{body_of, heading_of}
-use Rattle.gd_cert.specs.Reading.{Draft, Placed}
+use Rattle.gd_cert.specs.Reading.{Draft, Placed, with_line}
 use Rattle.gd_cert.specs.Words.{pieces}
 use Rattle.gd_cert.specs.declared.cert.CertGroup.{CertGroup}
 use Rattle.gd_cert.specs.declared.draft.CertDraft.{CertDraft}
@@ -16,6 +16,10 @@ use Rattle.gd_cert.specs.declared.rule.Rule.{Rule}
 -- the words that slices are
 abbrev pub texts : List (Bor (List ℕ)) → List (List ℕ)
 texts words = map (λ (word : Bor (List ℕ)). word.now) words
+
+-- words that tell the same of each line, whatever the lines before it told
+abbrev pub TellsAlike : List (List ℕ) → List (List ℕ) → Type 0
+TellsAlike words others = (line : ℕ) (d : Draft) → with_line line words d ≡ with_line line others d
 
 -- what stands before the first separator and what stands behind it, or that there is none
 abbrev pub CutsAt : ℕ → List ℕ → Option (Bor (List ℕ) × Bor (List ℕ)) → Type 0

@@ -9,6 +9,8 @@ mod lengths;
 mod line;
 mod number;
 mod read;
+#[cfg(test)]
+mod read_tests;
 mod rule;
 mod stage;
 mod word;
