@@ -66,6 +66,10 @@ impl<'a> Task for FormTask<'a> {
         60
     }
 
+    fn points(&self) -> usize {
+        self.rows.len()
+    }
+
     fn split(&self, cell: &Cell) -> (Cell, Cell) {
         split_cell(cell, cell.level as usize % 2)
     }

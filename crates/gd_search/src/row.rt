@@ -11,6 +11,10 @@ use gd_cells::{Cell, Evidence, Task, root_cell, show_centre_in_range};
 use std::alloc::Global;
 use std::thread::{Threads, join_mut};
 
+/// A level is worth threads from so many points on, each cell's counted. Its three further threads take two starts one after the other,
+/// some 0.1 ms each, and they take off three quarters of its time; a point takes 1 ns at least.
+const WORTH_THREADS: usize = 400_000;
+
 /// A cell, what refutes it first, and whether its centre holds. Where something refutes it, its centre isn't tried.
 #[derive(Clone, Copy)]
 pub struct Row {
@@ -84,12 +88,42 @@ fn bound_halves<R: Threads + Sync, T: Task>(rt: &R, task: &T, rows: &mut [Row])
     );
 }
 
-/// Bounds the cells of a level. It takes no memory. Two rows or more are bounded in two halves side by side.
+// The same in four quarters side by side.
+fn bound_quarters<R: Threads + Sync, T: Task>(rt: &R, task: &T, rows: &mut [Row])
+    requires { All (λ row. IsCell (T.questions task.now) row.cell) rows.old }
+    ensures { rows.new ≡ map (judged (T.questions task.now)) rows.old }
+{
+    let middle = rows.len() / 2;
+    let (front, back) = rows.split_at_mut(middle);
+    join_mut(
+        rt,
+        &mut || -> ()
+            requires { All (λ row. IsCell (T.questions task.now) row.cell) front.now }
+        { bound_halves(rt, task, front) },
+        &mut || -> ()
+            requires { All (λ row. IsCell (T.questions task.now) row.cell) back.now }
+        { bound_halves(rt, task, back) },
+    );
+}
+
+// The same, side by side where there is enough to do.
+fn bound_side_by_side<R: Threads + Sync, T: Task>(rt: &R, task: &T, rows: &mut [Row])
+    requires { All (λ row. IsCell (T.questions task.now) row.cell) rows.old }
+    ensures { rows.new ≡ map (judged (T.questions task.now)) rows.old }
+{
+    if rows.len().saturating_mul(task.points()) < WORTH_THREADS {
+        bound_rows(task, rows);
+    } else {
+        bound_quarters(rt, task, rows);
+    }
+}
+
+/// Bounds the cells of a level. It takes no memory. Where there is enough to do, four quarters are bounded side by side.
 pub fn bound_level<R: Threads + Sync, T: Task>(rt: &R, task: &T, rows: &mut Vec<Row>)
     requires { All (λ row. IsCell (T.questions task.now) row.cell) rows.old.items }
     ensures { rows.new.items ≡ map (judged (T.questions task.now)) rows.old.items }
 {
-    bound_halves(rt, task, rows.as_mut_slice());
+    bound_side_by_side(rt, task, rows.as_mut_slice());
 }
 
 /// How many cells are undecided.
