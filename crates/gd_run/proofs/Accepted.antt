@@ -6,7 +6,7 @@ use Rattle.gd_base.specs.declared.fault.InputFault.{InputFault}
 use Rattle.gd_cells.specs.declared.cell.Witness.{Witness}
 use Rattle.gd_form.specs.FlatTask.{IsFeasible, IsInside, assignment_of, direction_at, questions_of}
 use Rattle.gd_form.specs.Flatness.{IsFlat}
-use Rattle.gd_form.specs.Laws.Task.{flat_centre_in_range, flat_first_refutes, flat_grid, flat_halves_cover, flat_holds_is_feasible, flat_refuted_is_empty, flat_roots_cover}
+use Rattle.gd_form.specs.Laws.Task.{flat_centre_in_range, flat_centre_names_place, flat_first_refutes, flat_grid, flat_halves_cover, flat_holds_is_feasible, flat_refuted_is_empty, flat_roots_cover}
 use Rattle.gd_points.specs.Points.{points}
 use Rattle.gd_points.specs.Table.{Table}
 use Rattle.gd_points.specs.declared.table.Row.{Row}
@@ -23,7 +23,7 @@ use Rattle.gd_world.specs.Shelf.{Files}
 -- ---- what a verdict of flatness says
 accept_is_flat : (rows : List Row) (tolerance budget level : ℕ) (w : Witness) → IsVerdict (questions_of rows tolerance) budget (Accepted w level) → IsFlat rows tolerance w.root (direction_at w)
 accept_is_flat rows tolerance budget level w verdict =
-    (accepts (questions_of rows tolerance) (IsFeasible rows tolerance) (λ v. assignment_of v.root (direction_at v)) (flat_grid rows tolerance) (flat_centre_in_range rows tolerance) (flat_holds_is_feasible rows tolerance) budget w level verdict).shown
+    (accepts (questions_of rows tolerance) (IsFeasible rows tolerance) (λ v. assignment_of v.root (direction_at v)) (flat_grid rows tolerance) (flat_centre_in_range rows tolerance) (flat_centre_names_place rows tolerance) (flat_holds_is_feasible rows tolerance) budget w level verdict).shown
 
 reject_is_flat_nowhere : (rows : List Row) (tolerance budget leaves : ℕ) (tree : List Node) → 0 < length rows → IsVerdict (questions_of rows tolerance) budget (Rejected leaves tree) → (axis : ℕ) (n : V3) → IsFlat rows tolerance axis n → ⊥
 reject_is_flat_nowhere rows tolerance budget leaves tree some verdict axis n flat =
