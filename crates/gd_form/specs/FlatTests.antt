@@ -33,6 +33,10 @@ square_hi lo hi = int_max (lo *ℤ lo) (hi *ℤ hi)
 abbrev pub most_norm2 : DirBox → ℤ
 most_norm2 b = square_hi b.lo.x b.hi.x +ℤ square_hi b.lo.y b.hi.y +ℤ square_hi b.lo.z b.hi.z
 
+-- the point at a place, from 0
+abbrev pub point_at : List Row → ℕ → V3
+point_at rows i = (get_or rows i (record { feature = 0; group = 0; at = record { x = pos 0; y = pos 0; z = pos 0 } })).at
+
 -- the first judged point
 abbrev pub first_point : List Row → V3
 first_point [] = record { x = pos 0; y = pos 0; z = pos 0 }
