@@ -30,7 +30,7 @@ fn answer(words: &[&str]) -> (String, u8) {
         Err(_) => return (format!("gdteval: cannot read {file}\n"), 5),
     };
     match points::read(&bytes) {
-        Ok(table) => flat::judge(&table.rows, tolerance, budget),
+        Ok(table) => flat::judge(&table.columns(), tolerance, budget),
         Err(fault) => {
             let points::Fault { code, row, column } = fault;
             (format!("input {file} code {code} row {row} column {column}\n"), 3)
