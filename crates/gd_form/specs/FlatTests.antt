@@ -1,5 +1,5 @@
 -- The written tests of flatness: when two points refute a box of directions, and when a direction holds.
-use Rattle.std.specs.Prelude.{ℕ, ◌+◌, ◌-◌, ℤ, pos, ◌+ℤ◌, ◌-ℤ◌, ◌*ℤ◌, Bool, ◌&&◌, nat_eq, nat_le, Option, Some, None, List, [], ◌∷◌, get_or, length, map, if◌then◌else◌}
+use Rattle.std.specs.Prelude.{ℕ, ◌≡◌, ◌^◌, ◌+◌, ◌-◌, ℤ, pos, ◌+ℤ◌, ◌-ℤ◌, ◌*ℤ◌, Bool, ◌&&◌, nat_eq, nat_le, Option, Some, None, List, [], ◌∷◌, get_or, length, map, if◌then◌else◌}
 use Rattle.std.specs.Int.{int_max, int_min}
 use Rattle.std.specs.List.{fold, position_or_len}
 use Rattle.std.specs.Ordering.{int_eq, is_gt, is_le}
@@ -17,6 +17,10 @@ scale_lo lo hi k = int_min (lo *ℤ k) (hi *ℤ k)
 
 abbrev pub scale_hi : ℤ → ℤ → ℤ → ℤ
 scale_hi lo hi k = int_max (lo *ℤ k) (hi *ℤ k)
+
+-- both ends of an entry are 1, as along the axis that leads
+abbrev pub AreOne : ℤ → ℤ → Type 0
+AreOne lo hi = (lo ≡ pos (2 ^ 30)) × (hi ≡ pos (2 ^ 30))
 
 -- the least and the greatest value of a vector along the directions of a box
 abbrev pub low_along : DirBox → V3 → ℤ

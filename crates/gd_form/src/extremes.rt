@@ -1,13 +1,16 @@
 // The values of the points along the directions of a box. They don't depend on the tolerance.
-ghost use Rattle.std.specs.Prelude.{◌≡◌, ◌<◌, ◌≤◌, ◌≤ℤ◌, ◌^◌, ◌*◌, ◌-ℤ◌, false, pos, unsigned_abs, cond, get_or, int_lt, length, take};
+ghost use Rattle.std.specs.Prelude.{◌≡◌, ◌<◌, ◌≤◌, ◌≤ℤ◌, ◌^◌, ◌*◌, ◌-ℤ◌, ◌*ℤ◌, false, true, pos, unsigned_abs, cond, get_or, int_lt, length, take};
 ghost use Rattle.std.specs.List.{All};
 ghost use Rattle.std.specs.Ordering.{int_eq};
 ghost use Rattle.gd_dir.specs.Boxes.{IsBox};
-ghost use Rattle.gd_form.specs.FlatTests.{greatest, highs, least, lows, place_of, scale_hi, scale_lo};
+ghost use Rattle.gd_form.specs.FlatTests.{AreOne, greatest, highs, least, lows, place_of, scale_hi, scale_lo};
 
 use crate::points::{Points, block_end, place_at};
 use crate::products::{short, sum, times};
 use gd_dir::DirBox;
+
+/// 1 as an entry of a direction, in 2^-30.
+const ONE: i32 = 1 << 30;
 
 // The least and the greatest of some values, in units and 2^-30.
 #[derive(Clone, Copy)]
@@ -28,6 +31,45 @@ pub struct Extreme {
 pub struct Extremes {
     pub farthest: Extreme,
     pub nearest: Extreme,
+}
+
+// The axes along which both ends of a box are known to be 1, so that one product gives both.
+#[derive(Clone, Copy)]
+pub struct Leads {
+    pub x: bool,
+    pub y: bool,
+    pub z: bool,
+}
+
+/// No axis is known to lead.
+pub const NO_LEAD: Leads = Leads {
+    x: false,
+    y: false,
+    z: false,
+};
+
+// Whether both ends of an entry are 1.
+#[inline]
+fn are_one(lo: i64, hi: i64) -> bool
+    ensures { result ≡ true → AreOne lo hi }
+{
+    lo == i64::from(ONE) && hi == i64::from(ONE)
+}
+
+// 1 times a difference of coordinates.
+#[inline(always)]
+fn scale_one(by: i32) -> Span
+    requires { unsigned_abs by ≤ 16000000 }
+    ensures lo { result.lo ≡ pos (2 ^ 30) *ℤ by }
+    ensures hi { result.hi ≡ pos (2 ^ 30) *ℤ by }
+    ensures lo_size { unsigned_abs result.lo ≤ 2 ^ 54 }
+    ensures hi_size { unsigned_abs result.hi ≤ 2 ^ 54 }
+{
+    let value = times(ONE, by);
+    Span {
+        lo: value,
+        hi: value,
+    }
 }
 
 // One of two entries, by the sign of a difference of coordinates.
@@ -72,7 +114,8 @@ fn apart(a: i32, b: i32) -> i32
 
 // The span along one axis of a point, taken from the first point.
 #[inline(always)]
-fn along_axis(lo: i64, hi: i64, at: i32, first: i32) -> Span
+fn along_axis(leads: bool, lo: i64, hi: i64, at: i32, first: i32) -> Span
+    requires one { leads ≡ true → AreOne lo hi }
     requires order { lo ≤ℤ hi }
     requires lo { unsigned_abs lo ≤ 2 ^ 30 }
     requires hi { unsigned_abs hi ≤ 2 ^ 30 }
@@ -83,13 +126,21 @@ fn along_axis(lo: i64, hi: i64, at: i32, first: i32) -> Span
     ensures lo_size { unsigned_abs result.lo ≤ 2 ^ 54 }
     ensures hi_size { unsigned_abs result.hi ≤ 2 ^ 54 }
 {
-    scale(short(lo), short(hi), apart(at, first))
+    let by = apart(at, first);
+    if leads {
+        scale_one(by)
+    } else {
+        scale(short(lo), short(hi), by)
+    }
 }
 
 // The least and the greatest value of the point at a place, taken from the first point.
 #[inline(always)]
-pub fn span_at(b: &DirBox, points: &Points<'_>, at: usize) -> Span
+pub fn span_at(b: &DirBox, leads: Leads, points: &Points<'_>, at: usize) -> Span
     requires directions { IsBox b.now }
+    requires x { leads.x ≡ true → AreOne b.now.lo.x b.now.hi.x }
+    requires y { leads.y ≡ true → AreOne b.now.lo.y b.now.hi.y }
+    requires z { leads.z ≡ true → AreOne b.now.lo.z b.now.hi.z }
     requires at { at < length points.now.rows.now }
     ensures lo { result.lo ≡ get_or (lows b.now points.now.rows.now) at (pos 0) }
     ensures hi { result.hi ≡ get_or (highs b.now points.now.rows.now) at (pos 0) }
@@ -98,9 +149,9 @@ pub fn span_at(b: &DirBox, points: &Points<'_>, at: usize) -> Span
 {
     let point = place_at(points, at);
     let first = place_at(points, 0);
-    let x = along_axis(b.lo.x, b.hi.x, point.x, first.x);
-    let y = along_axis(b.lo.y, b.hi.y, point.y, first.y);
-    let z = along_axis(b.lo.z, b.hi.z, point.z, first.z);
+    let x = along_axis(leads.x, b.lo.x, b.hi.x, point.x, first.x);
+    let y = along_axis(leads.y, b.lo.y, b.hi.y, point.y, first.y);
+    let z = along_axis(leads.z, b.lo.z, b.hi.z, point.z, first.z);
     Span {
         lo: sum(x.lo, y.lo, z.lo),
         hi: sum(x.hi, y.hi, z.hi),
@@ -108,8 +159,19 @@ pub fn span_at(b: &DirBox, points: &Points<'_>, at: usize) -> Span
 }
 
 // The greatest least value and the least greatest value of the points before a place, from those before an earlier one.
-fn ends_to(b: &DirBox, points: &Points<'_>, before: Span, from: usize, to: usize) -> Span
+#[inline(always)]
+fn ends_by(
+    b: &DirBox,
+    leads: Leads,
+    points: &Points<'_>,
+    before: Span,
+    from: usize,
+    to: usize,
+) -> Span
     requires directions { IsBox b.now }
+    requires x { leads.x ≡ true → AreOne b.now.lo.x b.now.hi.x }
+    requires y { leads.y ≡ true → AreOne b.now.lo.y b.now.hi.y }
+    requires z { leads.z ≡ true → AreOne b.now.lo.z b.now.hi.z }
     requires from { 0 < from }
     requires order { from ≤ to }
     requires to { to ≤ length points.now.rows.now }
@@ -127,13 +189,41 @@ fn ends_to(b: &DirBox, points: &Points<'_>, before: Span, from: usize, to: usize
     let mut most = before.lo;
     let mut least = before.hi;
     for at in from..to {
-        let span = span_at(b, points, at);
+        let span = span_at(b, leads, points, at);
         most = most.max(span.lo);
         least = least.min(span.hi);
     }
     Span {
         lo: most,
         hi: least,
+    }
+}
+
+// The same, by the axis that leads: each has a loop of its own.
+fn ends_to(b: &DirBox, points: &Points<'_>, before: Span, from: usize, to: usize) -> Span
+    requires directions { IsBox b.now }
+    requires from { 0 < from }
+    requires order { from ≤ to }
+    requires to { to ≤ length points.now.rows.now }
+    requires lo { before.lo ≡ greatest (take from (lows b.now points.now.rows.now)) }
+    requires hi { before.hi ≡ least (take from (highs b.now points.now.rows.now)) }
+    requires lo_size { unsigned_abs before.lo ≤ 3 * 2 ^ 54 }
+    requires hi_size { unsigned_abs before.hi ≤ 3 * 2 ^ 54 }
+    ensures lo { result.lo ≡ greatest (take to (lows b.now points.now.rows.now)) }
+    ensures hi { result.hi ≡ least (take to (highs b.now points.now.rows.now)) }
+    ensures lo_more { before.lo ≤ℤ result.lo }
+    ensures hi_less { result.hi ≤ℤ before.hi }
+    ensures lo_size { unsigned_abs result.lo ≤ 3 * 2 ^ 54 }
+    ensures hi_size { unsigned_abs result.hi ≤ 3 * 2 ^ 54 }
+{
+    if are_one(b.lo.x, b.hi.x) {
+        ends_by(b, Leads { x: true, ..NO_LEAD }, points, before, from, to)
+    } else if are_one(b.lo.y, b.hi.y) {
+        ends_by(b, Leads { y: true, ..NO_LEAD }, points, before, from, to)
+    } else if are_one(b.lo.z, b.hi.z) {
+        ends_by(b, Leads { z: true, ..NO_LEAD }, points, before, from, to)
+    } else {
+        ends_by(b, NO_LEAD, points, before, from, to)
     }
 }
 
@@ -203,7 +293,7 @@ pub fn first_low(b: &DirBox, points: &Points<'_>, far: Extreme) -> usize
 {
     let count = points.rows.len();
     for at in far.from..count {
-        if span_at(b, points, at).lo == far.value {
+        if span_at(b, NO_LEAD, points, at).lo == far.value {
             return at;
         }
     }
@@ -221,7 +311,7 @@ pub fn first_high(b: &DirBox, points: &Points<'_>, near: Extreme) -> usize
 {
     let count = points.rows.len();
     for at in near.from..count {
-        if span_at(b, points, at).hi == near.value {
+        if span_at(b, NO_LEAD, points, at).hi == near.value {
             return at;
         }
     }

@@ -7,7 +7,7 @@ ghost use Rattle.gd_form.specs.FlatTests.{evidence_of, first_evidence, highs, is
 ghost use Rattle.gd_int.specs.Roots.{cmp_root_of};
 ghost use Rattle.gd_vec.specs.Vector.{IsWithin};
 
-use crate::extremes::{Extremes, extremes_along, first_high, first_low, span_at};
+use crate::extremes::{Extremes, NO_LEAD, extremes_along, first_high, first_low, span_at};
 use crate::points::Points;
 use gd_cells::Evidence;
 use gd_dir::DirBox;
@@ -117,8 +117,8 @@ fn places_part(b: &DirBox, points: &Points<'_>, tolerance: u32, far: usize, near
     requires near { near < length points.now.rows.now }
     ensures { result ≡ parts points.now.rows.now tolerance b.now far near }
 {
-    let lo = span_at(b, points, far).lo;
-    let hi = span_at(b, points, near).hi;
+    let lo = span_at(b, NO_LEAD, points, far).lo;
+    let hi = span_at(b, NO_LEAD, points, near).hi;
     are_parted(b, lo, hi, tolerance)
 }
 

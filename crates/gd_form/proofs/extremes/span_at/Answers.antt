@@ -35,3 +35,11 @@ returns-clause-hi c =
     kept-is c.sum-2.result (omega (arith, c.sum-2.ensures.size)) ∙ c.sum-2.ensures.value ∙ rw (kx, ky, kz, x, y, z) refl
     ∙ ap (λ p. high_along b (difference p first)) c.place_at-point.ensures.value ∙ ap (λ f. high_along b (difference (point_at rows c.args.at) f)) c.place_at-first.ensures.value
     ∙ sym (high_there b rows c.args.at c.requires.at)
+
+pub along_axis-y-requires-clause-one : goal.along_axis-y-requires-clause-one
+along_axis-y-requires-clause-one c =
+    λ leads. (kept-is c.args.b.now.lo.y (omega (arith, c.requires.directions.lo.y)) ∙ (c.requires.y leads).0, kept-is c.args.b.now.hi.y (omega (arith, c.requires.directions.hi.y)) ∙ (c.requires.y leads).1)
+
+pub along_axis-z-requires-clause-one : goal.along_axis-z-requires-clause-one
+along_axis-z-requires-clause-one c =
+    λ leads. (kept-is c.args.b.now.lo.z (omega (arith, c.requires.directions.lo.z)) ∙ (c.requires.z leads).0, kept-is c.args.b.now.hi.z (omega (arith, c.requires.directions.hi.z)) ∙ (c.requires.z leads).1)

@@ -1,6 +1,6 @@
 use Rattle.std.proofs.Common.{◌≡◌, ◌≤◌, ◌≤ℤ◌, ◌^◌, ◌*◌, take, unsigned_abs}
 use Rattle.gd_form.specs.FlatTests.{greatest, highs, least, lows}
-use Rattle.gd_form.proofs.extremes.ends_to.Given as goal
+use Rattle.gd_form.proofs.extremes.ends_by.Given as goal
 
 abbrev pub invariant-loop-at : goal.invariant-loop-at
 invariant-loop-at l = record {

@@ -4,7 +4,7 @@ use Rattle.std.specs.Int.{int_max, int_min}
 use Rattle.gd_form.proofs.Blocks.{greatest_next, highs_length, least_next, lows_length}
 use Rattle.gd_form.proofs.Sizes.{abs_max, abs_min, kept, kept-is}
 use Rattle.gd_form.specs.FlatTests.{greatest, highs, least, lows}
-use Rattle.gd_form.proofs.extremes.ends_to.Goals as goal
+use Rattle.gd_form.proofs.extremes.ends_by.Goals as goal
 
 pub loop-at-preserved : goal.loop-at-preserved
 loop-at-preserved c =
