@@ -81,16 +81,26 @@ struct Evidence {
 /// Points are looked at in blocks of so many.
 const BLOCK: usize = 512;
 
-/// The least and the greatest value of a point along a box, taken from the first point. A negative difference turns both ends of an entry round.
+/// Both ends of an entry times a difference, in order. A negative difference turns them round.
 #[inline(always)]
-fn span(within: &Directions, points: &Columns, at: usize) -> (i64, i64) {
+fn scale(lo: i64, hi: i64, apart: i32) -> (i64, i64) {
+    let (lo, hi) = (lo as i32, hi as i32);
+    let (below, above) = if apart < 0 { (hi, lo) } else { (lo, hi) };
+    (i64::from(below) * i64::from(apart), i64::from(above) * i64::from(apart))
+}
+
+/// The least and the greatest value of a point along a box that leads along an axis, taken from the first point.
+#[inline(always)]
+fn span<const AXIS: usize>(within: &Directions, points: &Columns, at: usize) -> (i64, i64) {
     let (mut low, mut high) = (0, 0);
     for (axis, column) in points.axes.iter().enumerate() {
         let apart = column[at] - column[0];
-        let (lo, hi) = (within.lo[axis] as i32, within.hi[axis] as i32);
-        let (below, above) = if apart < 0 { (hi, lo) } else { (lo, hi) };
-        low += i64::from(below) * i64::from(apart);
-        high += i64::from(above) * i64::from(apart);
+        let (below, above) = match axis == AXIS {
+            true => (i64::from(apart) << 30, i64::from(apart) << 30),
+            false => scale(within.lo[axis], within.hi[axis], apart),
+        };
+        low += below;
+        high += above;
     }
     (low, high)
 }
@@ -99,14 +109,14 @@ fn span(within: &Directions, points: &Columns, at: usize) -> (i64, i64) {
 /// these two lie further apart than the tolerance along each direction of the box.
 ///
 /// A block is told by its extremes, and the points are looked up in the two blocks that have the extremes of all first.
-fn first_evidence(points: &Columns, tolerance: u32, within: &Directions) -> Option<Evidence> {
+fn first_evidence<const AXIS: usize>(points: &Columns, tolerance: u32, within: &Directions) -> Option<Evidence> {
     let points = &points.same_length();
     let count = points.axes[0].len();
     let (mut farthest, mut nearest) = ((0, 0), (0, 0));
     for from in (1..count).step_by(BLOCK) {
         let (mut low, mut high) = (farthest.0, nearest.0);
         for at in from..count.min(from + BLOCK) {
-            let it = span(within, points, at);
+            let it = span::<AXIS>(within, points, at);
             low = low.max(it.0);
             high = high.min(it.1);
         }
@@ -119,8 +129,8 @@ fn first_evidence(points: &Columns, tolerance: u32, within: &Directions) -> Opti
     }
     let length2: i128 = (0..3).map(|axis| square(within.lo[axis]).max(square(within.hi[axis]))).sum();
     is_above(farthest.0 - nearest.0, tolerance, length2).then(|| {
-        let far = (farthest.1..count).find(|&at| span(within, points, at).0 == farthest.0);
-        let near = (nearest.1..count).find(|&at| span(within, points, at).1 == nearest.0);
+        let far = (farthest.1..count).find(|&at| span::<AXIS>(within, points, at).0 == farthest.0);
+        let near = (nearest.1..count).find(|&at| span::<AXIS>(within, points, at).1 == nearest.0);
         Evidence { farthest: far.unwrap_or(count) as u32 + 1, nearest: near.unwrap_or(count) as u32 + 1 }
     })
 }
@@ -153,7 +163,13 @@ enum Found {
 }
 
 fn bound(points: &Columns, tolerance: u32, cell: &Cell, level: u32) -> Found {
-    match first_evidence(points, tolerance, &cell.directions(level)) {
+    let within = cell.directions(level);
+    let evidence = match cell.axis {
+        0 => first_evidence::<0>(points, tolerance, &within),
+        1 => first_evidence::<1>(points, tolerance, &within),
+        _ => first_evidence::<2>(points, tolerance, &within),
+    };
+    match evidence {
         Some(evidence) => Found::Refuted(evidence),
         None => Found::Undecided { holds: holds(points, tolerance, &cell.centre(level)) },
     }
