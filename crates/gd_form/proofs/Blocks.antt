@@ -1,6 +1,5 @@
 -- The extremes of values, block by block.
-use Rattle.std.proofs.Common.{arith, ◌≡◌, refl, sym, ap, ◌∙◌, ℕ, ◌+◌, ◌<◌, ◌≤◌, ◌*◌, ◌^◌, ℤ, pos, ◌*ℤ◌, ◌-ℤ◌, ◌≤ℤ◌, Bool, true, false, cond, List, [], ◌∷◌, ◌++◌, length, length-take-le, get_or, take, map, int_lt, unsigned_abs, of_z, to_z, w64}
-use Rattle.std.proofs.lemmas.Bool.{false≢true}
+use Rattle.std.proofs.Common.{arith, ◌≡◌, refl, sym, ap, ◌∙◌, ℕ, ◌+◌, ◌<◌, ◌≤◌, ◌*◌, ◌^◌, ℤ, pos, ◌*ℤ◌, ◌≤ℤ◌, Bool, true, false, cond, List, [], ◌∷◌, ◌++◌, length, length-take-le, get_or, take, map, int_lt, unsigned_abs, of_z, to_z, w64}
 use Rattle.std.proofs.lemmas.Int.{ints, clamps}
 use Rattle.std.proofs.lemmas.List.{get_or-map, get_or-take, length-map, take_more}
 use Rattle.std.proofs.lemmas.List.Elements.{All-push}
@@ -16,7 +15,6 @@ use Rattle.gd_form.proofs.Steps.{high_at, low_at}
 use Rattle.gd_form.specs.FlatTests.{along, greatest, high_along, highs, least, low_along, lows, place_of, point_at, scale_hi, scale_lo}
 use Rattle.gd_form.specs.declared.extremes.Extreme.{Extreme}
 use Rattle.gd_int.proofs.Integers.{mul_ge_right, mul_le_right}
-use Rattle.gd_points.specs.Columns.{AreColumns}
 use Rattle.gd_points.specs.declared.table.Row.{Row}
 use Rattle.gd_vec.specs.Vector.{difference, dot_of}
 use Rattle.gd_vec.specs.declared.vector.V3.{V3}

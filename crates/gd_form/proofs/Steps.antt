@@ -1,11 +1,9 @@
 -- The values of the points by their places.
-use Rattle.std.proofs.Common.{arith, ◌≡◌, refl, sym, ap, ◌∙◌, ℕ, ◌+◌, ◌*◌, ◌^◌, ◌<◌, ◌≤◌, ℤ, pos, ◌-ℤ◌, Bool, true, false, cond, List, [], ◌∷◌, ◌++◌, length, length-take-le, map, get_or, take, int_lt, unsigned_abs}
+use Rattle.std.proofs.Common.{arith, ◌≡◌, refl, ap, ◌∙◌, ℕ, ◌<◌, ℤ, pos, ◌-ℤ◌, List, [], ◌∷◌, length, get_or, take}
 use Rattle.std.proofs.lemmas.Int.{ints, clamps}
-use Rattle.std.proofs.lemmas.List.{get_or-map, length-map, take_more}
+use Rattle.std.proofs.lemmas.List.{get_or-map}
 use Rattle.gd_dir.specs.declared.shape.DirBox.{DirBox}
-use Rattle.gd_form.proofs.Sizes.{kept, kept-is}
-use Rattle.gd_form.specs.FlatTests.{first_point, greatest, high_along, highs, least, low_along, lows, place_of, scale_hi, scale_lo}
-use Rattle.gd_form.specs.declared.extremes.Extreme.{Extreme}
+use Rattle.gd_form.specs.FlatTests.{first_point, high_along, highs, low_along, lows, scale_hi, scale_lo}
 use Rattle.gd_points.specs.declared.table.Row.{Row}
 use Rattle.gd_vec.specs.Vector.{difference}
 

@@ -1,5 +1,5 @@
 -- The coordinates of one point more.
-use Rattle.std.proofs.Common.{◌≡◌, refl, sym, ap, ◌∙◌, ℤ, ◌++◌, List, [], ◌∷◌, map}
+use Rattle.std.proofs.Common.{◌≡◌, sym, ap, ◌∙◌, ℤ, ◌++◌, List, [], ◌∷◌, map}
 use Rattle.std.proofs.lemmas.List.{map-append}
 use Rattle.gd_points.specs.Columns.{AreColumns}
 use Rattle.gd_points.specs.declared.table.Row.{Row}

@@ -1,5 +1,4 @@
 use Rattle.std.proofs.Common.{arith, ◌≡◌, ◌∙◌, ◌≤◌, ap, refl, subst, sym, length}
-use Rattle.std.proofs.lemmas.Int.{ints}
 use Rattle.gd_form.proofs.Blocks.{NoneBefore, later_greatest, later_least}
 use Rattle.gd_form.proofs.Sizes.{kept, kept-is}
 use Rattle.gd_form.proofs.Steps.{first_high, first_low}

@@ -1,4 +1,4 @@
-use Rattle.std.proofs.Common.{arith, cond, int_lt, pos, refl, ◌≡◌, ◌∙◌, ap, ◌*ℤ◌}
+use Rattle.std.proofs.Common.{arith, cond, int_lt, pos, refl, ◌≡◌, ◌∙◌}
 use Rattle.gd_form.proofs.Blocks.{picked_hi, picked_lo}
 use Rattle.gd_form.proofs.Sizes.{kept-is, kept_short, kept_short-is}
 use Rattle.gd_form.proofs.extremes.scale.Goals as goal

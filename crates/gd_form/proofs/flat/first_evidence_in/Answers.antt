@@ -1,4 +1,4 @@
-use Rattle.std.proofs.Common.{◌≡◌, ◌∙◌, ap, sym}
+use Rattle.std.proofs.Common.{◌∙◌, ap, sym}
 use Rattle.std.proofs.Common.{Some}
 use Rattle.gd_form.proofs.Decisions.{decided}
 use Rattle.gd_form.specs.FlatTests.{highs, lows, place_of}

@@ -1,4 +1,4 @@
-use Rattle.std.proofs.Common.{arith, ◌≡◌, ◌∙◌, ◌<◌, ◌≤◌, ◌-ℤ◌, ◌≤ℤ◌, length, pos, sym}
+use Rattle.std.proofs.Common.{arith, ◌∙◌, ◌<◌, ◌≤◌, ◌-ℤ◌, ◌≤ℤ◌, length, pos, sym}
 use Rattle.std.proofs.lemmas.Int.{ints}
 use Rattle.gd_form.proofs.Blocks.{along_length, greatest_front, least_front}
 use Rattle.gd_form.proofs.Decisions.{further}
