@@ -1,3 +1,4 @@
+mod Beside
 pub mod Records
 pub mod Fields
 pub mod Again
