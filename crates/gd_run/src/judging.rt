@@ -89,8 +89,8 @@ fn certificate_text(
     budget: u32,
 ) -> Result<Vec<u8>, Memory>
     requires budget { budget ≤ 1000000 }
-    requires verdict { IsVerdict (questions_of task.now.rows.now.items task.now.tolerance) budget (end_of outcome) }
-    ensures { IfOk result (λ bytes. bytes.items ≡ text (certificate_of_end (questions_of task.now.rows.now.items task.now.tolerance) budget (end_of outcome))) }
+    requires verdict { IsVerdict (questions_of task.now.points.rows.now task.now.tolerance) budget (end_of outcome) }
+    ensures { IfOk result (λ bytes. bytes.items ≡ text (certificate_of_end (questions_of task.now.points.rows.now task.now.tolerance) budget (end_of outcome))) }
 {
     show_grid(task);
     show_first_refutes(task);
