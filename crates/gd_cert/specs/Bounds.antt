@@ -2,7 +2,6 @@
 use Rattle.std.specs.Prelude.{ℕ, ℤ, ◌^◌, ◌≡◌, ◌≤◌, ◌<◌, Bool, true, ◌==◌, ◌||◌, List, length, unsigned_abs}
 use Rattle.std.specs.List.{All, list_all}
 use Rattle.gd_base.specs.Names.{is_name_byte}
-use Rattle.gd_base.specs.declared.verdict.Reason.{Reason}
 use Rattle.gd_cells.specs.Laws.{IsShort}
 use Rattle.gd_cells.specs.declared.node.Node.{Node}
 use Rattle.gd_cells.specs.declared.node.Node.TheVariants.{Split, Refuted, Left}

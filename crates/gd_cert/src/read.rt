@@ -2,11 +2,16 @@
 ghost use Rattle.std.specs.Prelude.{◌≡◌, ◌≤◌, IfOk, Ok, length};
 ghost use Rattle.gd_cert.specs.Bounds.{IsInBounds};
 ghost use Rattle.gd_cert.specs.Certificates.{Certificate, certificate_of};
-ghost use Rattle.gd_cert.specs.Reading.{Gives, reading};
+ghost use Rattle.gd_cert.specs.Drafts.{TakesLine, draft_of};
+ghost use Rattle.gd_cert.specs.Reading.{Gives, drafted, on_line, reading, with_line};
 ghost use Rattle.gd_cert.specs.Text.{KeepsLines, text};
+ghost use Rattle.gd_cert.specs.Words.{words_of};
 
 use crate::cert::Cert;
+use crate::draft::CertDraft;
 use crate::fault::CertReadFault;
+use crate::rule::LineFault;
+use crate::word::{cut, split_words};
 use std::alloc::Global;
 
 /// The certificate whose text the bytes are (docs/FORMATS.md, "Certificate"), or the first fault of the bytes, with its line and code 40 to 46.
@@ -20,5 +25,50 @@ pub fn read_cert(alloc: Global, bytes: &[u8]) -> Result<Cert, CertReadFault>
     // Which fault it is.
     ensures exact { Gives certificate_of result (reading bytes.now) }
 {
-    Err(CertReadFault::Memory)
+    match read_draft(alloc, bytes) {
+        Ok(draft) => Ok(draft.into_cert()),
+        Err(fault) => Err(fault),
+    }
+}
+
+// What all the lines tell.
+#[tactic(auto, unfolding(crate::specs::Reading::drafted))]
+fn read_draft(alloc: Global, bytes: &[u8]) -> Result<CertDraft, CertReadFault>
+    requires { length bytes.now ≤ 134217728 }
+    ensures { Gives draft_of result (drafted bytes.now) }
+{
+    let mut draft = CertDraft::new(alloc);
+    let mut words = Vec::new(alloc);
+    let mut line = 1;
+    let mut rest = bytes;
+    while let Some((text, more)) = cut(rest, b'\n') {
+        match take_text(alloc, &mut draft, &mut words, line, text) {
+            Ok(()) => {}
+            Err(fault) => return Err(fault),
+        }
+        line += 1;
+        rest = more;
+    }
+    match draft.last_fault(rest) {
+        None => Ok(draft),
+        Some(broken) => Err(broken.broken_at(line)),
+    }
+}
+
+// Takes one more line, whose number is `line`. The words of the line before go from `words`.
+fn take_text<'a>(
+    alloc: Global,
+    draft: &mut CertDraft,
+    words: &mut Vec<&'a [u8]>,
+    line: u32,
+    text: &'a [u8],
+) -> Result<(), CertReadFault>
+    ensures { TakesLine (draft_of draft.new) result (on_line line (with_line line (words_of text.now) (draft_of draft.old))) }
+{
+    split_words(text, words)?;
+    match draft.take_line(alloc, line, words.as_slice()) {
+        Ok(()) => Ok(()),
+        Err(LineFault::Memory) => Err(CertReadFault::Memory),
+        Err(LineFault::Rule(broken)) => Err(broken.broken_at(line)),
+    }
 }

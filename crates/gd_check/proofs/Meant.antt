@@ -50,7 +50,7 @@ none_feasible q feasible inside roots halves empty nodes rejected a can =
     none_inside q feasible inside halves empty a can b.branch has.root 0 0 has.first has.last (omega arith) (omega arith) b.holds has.lies_inside
 
 -- ---- the groups
-body_true : (q : Questions) (feasible : List ℤ → Type 0) (inside : List ℤ → Cell → Type 0) (assignment : Witness → List ℤ) → Judges q feasible inside assignment →
+pub body_true : (q : Questions) (feasible : List ℤ → Type 0) (inside : List ℤ → Cell → Type 0) (assignment : Witness → List ℤ) → Judges q feasible inside assignment →
     (budget : ℕ) (b : Body) → IsRightBody q budget b → IsTrueOf q feasible assignment budget b
 body_true q feasible inside assignment judges budget (Accept root at) h = judges.shows (witness_of root at) h.ranges h.meets
 body_true q feasible inside assignment judges budget (Reject nodes) h = none_feasible q feasible inside judges.roots judges.halves judges.empty nodes h

@@ -15,7 +15,8 @@ use Rattle.gd_cert.specs.Bounds.{CountsFit, IsDecided, NodeFits, WitnessFits}
 use Rattle.gd_check.proofs.Below.{IsPath, cell_of_path, half_path, halves_counted, halves_spent, here_counted, lower_path, none_spent, root_path, still_left}
 use Rattle.gd_check.proofs.Ends.{IsOpenAt, IsRejectedAt, open_at, rejected_at}
 use Rattle.gd_check.specs.Right.{AreBelow, Branch, Leaf, Fork, Bud, IsAccepted, IsForest, IsOpen, IsRefutedBy, IsRejected, IsSearchedTo, lines_of, witness_of}
-use Rattle.gd_check.specs.Written.{VerdictIsRight, body_of_end, tree_of}
+use Rattle.gd_cert.specs.Sizes.{tree_of}
+use Rattle.gd_check.specs.Written.{VerdictIsRight, body_of_end}
 use Rattle.gd_search.proofs.Counted.{left_below, left_in, left_in-append, left_under, none_left, total, total-add, total-none, total-same, spent_under, undecided_under}
 use Rattle.gd_search.proofs.Forest.{cells_below}
 use Rattle.gd_search.proofs.Levels.{all_cons, all_nil, is_left}
@@ -25,9 +26,9 @@ use Rattle.gd_search.specs.Trees.{last_line, tree, tree_below, with_halves}
 use Rattle.gd_search.specs.Verdict.{Accepted, Rejected, Open, End, IsVerdict, spent, undecided}
 
 -- ---- an accepted witness
-whole : (q : Questions) (w : Witness) → q.numbers ≤ 12 → length w.at ≡ 12 → NamesPlace q w → witness_of w.root (take q.numbers w.at) ≡ w
-whole q w few room place =
-    let n : length (take q.numbers w.at) ≡ q.numbers = length-take-le q.numbers w.at (omega (arith, room)) in
+whole : (q : Questions) (w : Witness) → q.numbers ≤ 12 → NamesPlace q w → witness_of w.root (take q.numbers w.at) ≡ w
+whole q w few place =
+    let n : length (take q.numbers w.at) ≡ q.numbers = length-take-le q.numbers w.at (omega (arith, place.room)) in
     let e : take q.numbers w.at ++ replicate (12 - length (take q.numbers w.at)) (pos 0) ≡ w.at =
     ap (λ k. take q.numbers w.at ++ replicate (12 - k) (pos 0)) n ∙ ap (λ zs. take q.numbers w.at ++ zs) (sym place.behind) ∙ take-append-drop q.numbers w.at in
     ap {B = Witness} (λ at. record { root = w.root; at = at }) e
@@ -35,20 +36,20 @@ whole q w few room place =
 shown : (q : Questions) → IsGrid q → CentreInRange q → CentreNamesPlace q → (budget : ℕ) (w : Witness) (level : ℕ) → IsVerdict q budget (Accepted w level) → IsShown q (λ a. Unit {0}) (λ v. v.at) w
 shown q grid central places budget w level is = accepts q (λ a. Unit {0}) (λ v. v.at) grid central places (λ v ranges meets. tt) budget w level is
 
-accept_right : (q : Questions) → IsGrid q → CentreInRange q → CentreNamesPlace q → (budget : ℕ) (w : Witness) (level : ℕ) → length w.at ≡ 12 → IsVerdict q budget (Accepted w level) → IsAccepted q w.root (take q.numbers w.at)
-accept_right q grid central places budget w level room is =
+accept_right : (q : Questions) → IsGrid q → CentreInRange q → CentreNamesPlace q → (budget : ℕ) (w : Witness) (level : ℕ) → IsVerdict q budget (Accepted w level) → IsAccepted q w.root (take q.numbers w.at)
+accept_right q grid central places budget w level is =
     let s : IsShown q (λ a. Unit {0}) (λ v. v.at) w = shown q grid central places budget w level is in
-    let same : witness_of w.root (take q.numbers w.at) ≡ w = whole q w grid.few_numbers room s.place in
+    let same : witness_of w.root (take q.numbers w.at) ≡ w = whole q w grid.few_numbers s.place in
     record {
-      count = length-take-le q.numbers w.at (omega (arith, room, grid.few_numbers));
+      count = length-take-le q.numbers w.at (omega (arith, s.place.room, grid.few_numbers));
       ranges = ap q.in_range same ∙ s.ranges;
       meets = ap q.holds same ∙ s.meets;
     }
 
-accept_fits : (q : Questions) → IsGrid q → CentreInRange q → CentreNamesPlace q → 2 ≤ q.numbers → (budget : ℕ) (w : Witness) (level : ℕ) → length w.at ≡ 12 → IsVerdict q budget (Accepted w level) → WitnessFits w.root (take q.numbers w.at)
-accept_fits q grid central places some budget w level room is =
+accept_fits : (q : Questions) → IsGrid q → CentreInRange q → CentreNamesPlace q → 2 ≤ q.numbers → (budget : ℕ) (w : Witness) (level : ℕ) → IsVerdict q budget (Accepted w level) → WitnessFits w.root (take q.numbers w.at)
+accept_fits q grid central places some budget w level is =
     let s : IsShown q (λ a. Unit {0}) (λ v. v.at) w = shown q grid central places budget w level is in
-    let n : length (take q.numbers w.at) ≡ q.numbers = length-take-le q.numbers w.at (omega (arith, room, grid.few_numbers)) in
+    let n : length (take q.numbers w.at) ≡ q.numbers = length-take-le q.numbers w.at (omega (arith, s.place.room, grid.few_numbers)) in
     record {
       root_fits = omega (arith, s.place.last, grid.few_roots);
       some = omega (arith, n, some);
@@ -267,14 +268,14 @@ counts_fit q grid budget lines level u s why few there = record {
 
 -- ---- what a verdict leaves
 pub verdict_is_right : (q : Questions) → IsGrid q → FirstRefutes q → FirstIsShort q → CentreInRange q → CentreNamesPlace q → 2 ≤ q.numbers → VerdictIsRight q
-verdict_is_right q grid refutes short central places some budget (Accepted w level) few room is =
-    (accept_right q grid central places budget w level room is, accept_fits q grid central places some budget w level room is)
-verdict_is_right q grid refutes short central places some budget (Rejected leaves lines) few room is =
+verdict_is_right q grid refutes short central places some budget (Accepted w level) few is =
+    (accept_right q grid central places budget w level is, accept_fits q grid central places some budget w level is)
+verdict_is_right q grid refutes short central places some budget (Rejected leaves lines) few is =
     let there : IsRejectedAt q budget lines = rejected_at q budget leaves lines is in (
       subst (IsRejected q) (sym there.same) (tree_refuted q grid refutes there.level there.low there.empty),
       (subst (All NodeFits) (sym there.same) (tree_fits q short there.level there.low), subst (All IsDecided) (sym there.same) (tree_decided q grid there.level there.low there.empty)),
     )
-verdict_is_right q grid refutes short central places some budget (Open lines level u s why) few room is =
+verdict_is_right q grid refutes short central places some budget (Open lines level u s why) few is =
     let there : IsOpenAt q budget lines level u s why = open_at q grid budget lines level u s why is in (
       open_right q refutes budget lines level u s why is there,
       (counts_fit q grid budget lines level u s why few there, subst (All NodeFits) (sym there.same) (tree_fits q short level there.low)),

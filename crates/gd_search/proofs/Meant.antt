@@ -4,7 +4,7 @@ use Rattle.std.proofs.lemmas.Bool.{cases_lt}
 use Rattle.std.proofs.lemmas.Bool.Decides.{nat_tests}
 use Rattle.std.proofs.lemmas.List.{length-append}
 use Rattle.std.proofs.lemmas.List.Elements.{All-filter, All-map, filter-append}
-use Rattle.std.specs.List.{All, flat_map}
+use Rattle.std.specs.List.{flat_map}
 use Rattle.gd_base.specs.declared.verdict.Reason.TheVariants as reason
 use Rattle.gd_cells.specs.Grid.{count_from}
 use Rattle.gd_cells.specs.Laws.{CentreInRange, CentreNamesPlace, FirstRefutes, HalvesCover, HasRoot, HoldsIsFeasible, IsGrid, NamesPlace, RefutedIsEmpty, RootsCover}

@@ -122,7 +122,7 @@ sizes_of : (c : Cell) → c.level ≤ 3 → All is_small (witness_of c).at
 sizes_of c few = All-cons is_small (pos c.level) (replicate 11 (pos 0)) (omega arith) (All-replicate is_small 11 (pos 0) (omega arith))
 
 pub toy-places : (shows : Bool) (depth : ℕ) (least : ℤ) → CentreNamesPlace (toy shows depth least)
-toy-places shows depth least c cell = record { first = first_root_of (toy shows depth least) c cell; last = last_root_of (toy shows depth least) c cell; sizes = sizes_of c (few_levels_of (toy shows depth least) c (omega arith) cell); behind = refl }
+toy-places shows depth least c cell = record { room = refl; first = first_root_of (toy shows depth least) c cell; last = last_root_of (toy shows depth least) c cell; sizes = sizes_of c (few_levels_of (toy shows depth least) c (omega arith) cell); behind = refl }
 
 pub toy-none : (shows : Bool) (depth : ℕ) (least : ℤ) → NoneRefutes (toy shows depth least)
 toy-none true depth least c e cell h = refl
@@ -142,7 +142,7 @@ meeting-short c e cell h =
     let same : evidence_of c ≡ e = cc in subst IsShort same (short_evidence c (few_roots_of meeting c (omega arith) cell))
 
 pub meeting-places : CentreNamesPlace meeting
-meeting-places c cell = record { first = first_root_of meeting c cell; last = last_root_of meeting c cell; sizes = sizes_of c (few_levels_of meeting c (omega arith) cell); behind = refl }
+meeting-places c cell = record { room = refl; first = first_root_of meeting c cell; last = last_root_of meeting c cell; sizes = sizes_of c (few_levels_of meeting c (omega arith) cell); behind = refl }
 
 pub meeting-grid : IsGrid meeting
 meeting-grid = record {

@@ -72,6 +72,10 @@ impl Task for Toy {
         3
     }
 
+    fn points(&self) -> usize {
+        1
+    }
+
     fn split(&self, cell: &Cell) -> (Cell, Cell) {
         split_cell(cell, 0)
     }
@@ -151,6 +155,11 @@ impl Task for Meeting {
 
     fn floor_level(&self) -> u32 {
         1
+    }
+
+    // so many that two cells are worth threads
+    fn points(&self) -> usize {
+        1_000_000_000
     }
 
     fn split(&self, cell: &Cell) -> (Cell, Cell) {

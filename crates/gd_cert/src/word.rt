@@ -1,0 +1,38 @@
+// Bytes that are parted by separators.
+ghost use Rattle.std.specs.Prelude.{◌≡◌, OnOk};
+ghost use Rattle.gd_cert.specs.Drafts.{CutsAt, TellsAlike, texts};
+ghost use Rattle.gd_cert.specs.Words.{words_of};
+
+use gd_base::Memory;
+use memchr::memchr;
+
+// The most words of a line: `w`, a root and 12 numbers.
+const MOST_WORDS: usize = 14;
+
+/// What stands before the first separator, and what stands behind it.
+pub(crate) fn cut(bytes: &[u8], separator: u8) -> Option<(&[u8], &[u8])>
+    ensures { CutsAt separator bytes.now result }
+{
+    match memchr(separator, bytes) {
+        None => None,
+        Some(at) => Some((&bytes[..at], &bytes[at + 1..])),
+    }
+}
+
+/// Replaces `words` by the words of a line, which single spaces part.
+/// What follows the 14th is left as one word, since no line has more than 14.
+pub(crate) fn split_words<'a>(line: &'a [u8], words: &mut Vec<&'a [u8]>) -> Result<(), Memory>
+    ensures { OnOk result (TellsAlike (texts words.new.items) (words_of line.now)) }
+{
+    words.clear();
+    let mut rest = line;
+    while words.len() < MOST_WORDS {
+        let Some((word, more)) = cut(rest, b' ') else {
+            break;
+        };
+        words.push(word)?;
+        rest = more;
+    }
+    words.push(rest)?;
+    Ok(())
+}
