@@ -12,6 +12,8 @@ The same words give the same bytes on each machine. Coordinates are in units of 
     equal   one place
     late    one place, but for the last point: no centre holds at tolerance 0, and only the last point tells
     make    x and y within 1,000,000, z from 0 to 100
+    rod     on both end circles of a round rod of radius 1,000 and length 4,000,000, which leads along (2, 3, 6): nearly as wide
+            along each direction across the rod as along another, so that a reject has many leaves for few points
 """
 import math
 import sys
@@ -78,7 +80,16 @@ def make(draws, at, n):
     return draws.within(1_000_000), draws.within(1_000_000), draws.next() % 101
 
 
-PARTS = {it.__name__: it for it in (saddle, corners, tilt, noise, cube, sphere, equal, late, make)}
+def rod(draws, at, n):
+    # (2, 3, 6), (3, -6, 2) and (6, 2, -3) are at right angles, and each is 7 long
+    along = 2_000_000 if at % 2 else -2_000_000
+    a, b = draws.within(1_000_000), draws.within(1_000_000)
+    length = math.isqrt(a * a + b * b) or 1
+    a, b = 1_000 * a // length, 1_000 * b // length
+    return (2 * along + 3 * a + 6 * b) // 7, (3 * along - 6 * a + 2 * b) // 7, (6 * along + 2 * a - 3 * b) // 7
+
+
+PARTS = {it.__name__: it for it in (saddle, corners, tilt, noise, cube, sphere, equal, late, make, rod)}
 
 
 def text_of(part, seed, n):

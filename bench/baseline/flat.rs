@@ -3,22 +3,22 @@
 use crate::points::Row;
 
 /// A ratio of 1.
-const ONE: i64 = 1 << 30;
-const FINEST: u32 = 60;
+pub const ONE: i64 = 1 << 30;
+pub const FINEST: u32 = 60;
 /// How many axes a direction may lead along.
 const ROOTS: usize = 3;
 
 /// A box of directions: 1 along one axis, and an interval of ratios at each of the two others, in ascending order.
 #[derive(Clone, Copy)]
-struct Cell {
-    axis: usize,
+pub struct Cell {
+    pub axis: usize,
     index: [i64; 2],
 }
 
 /// The least and the greatest entry of the directions of a cell along each axis.
-struct Directions {
-    lo: [i64; 3],
-    hi: [i64; 3],
+pub struct Directions {
+    pub lo: [i64; 3],
+    pub hi: [i64; 3],
 }
 
 /// How often a level has halved a ratio, the first (0) or the second (1).
@@ -27,7 +27,7 @@ fn halvings(ratio: u32, level: u32) -> u32 {
 }
 
 /// 1 at an axis, and the ratios at the two others.
-fn direction(axis: usize, [a, b]: [i64; 2]) -> [i64; 3] {
+pub fn direction(axis: usize, [a, b]: [i64; 2]) -> [i64; 3] {
     match axis {
         0 => [ONE, a, b],
         1 => [a, ONE, b],
@@ -36,29 +36,48 @@ fn direction(axis: usize, [a, b]: [i64; 2]) -> [i64; 3] {
 }
 
 impl Cell {
-    /// The direction of the ratios so many half widths above the low ends.
-    fn corner(&self, level: u32, half_widths: i64) -> [i64; 3] {
-        let ratio = |it: u32| {
-            let half = ONE >> halvings(it, level);
-            (2 * self.index[it as usize] + half_widths) * half - ONE
-        };
-        direction(self.axis, [ratio(0), ratio(1)])
+    /// The whole roots.
+    pub fn roots() -> [Cell; ROOTS] {
+        [0, 1, 2].map(|axis| Cell { axis, index: [0; 2] })
     }
 
-    fn centre(&self, level: u32) -> [i64; 3] {
+    /// The ratios so many half widths above the low ends.
+    fn ratios(&self, level: u32, half_widths: i64) -> [i64; 2] {
+        [0, 1].map(|it: u32| {
+            let half = ONE >> halvings(it, level);
+            (2 * self.index[it as usize] + half_widths) * half - ONE
+        })
+    }
+
+    fn corner(&self, level: u32, half_widths: i64) -> [i64; 3] {
+        direction(self.axis, self.ratios(level, half_widths))
+    }
+
+    pub fn centre_ratios(&self, level: u32) -> [i64; 2] {
+        self.ratios(level, 1)
+    }
+
+    pub fn centre(&self, level: u32) -> [i64; 3] {
         self.corner(level, 1)
     }
 
-    fn directions(&self, level: u32) -> Directions {
+    pub fn directions(&self, level: u32) -> Directions {
         Directions { lo: self.corner(level, 0), hi: self.corner(level, 2) }
     }
 
     /// One of both halves, along the ratio whose turn it is at this level.
-    fn half(&self, level: u32, side: i64) -> Cell {
+    pub fn half(&self, level: u32, side: i64) -> Cell {
         let mut index = self.index;
         let ratio = (level % 2) as usize;
         index[ratio] = 2 * index[ratio] + side;
         Cell { axis: self.axis, index }
+    }
+}
+
+impl Directions {
+    /// The greatest squared length of the directions.
+    pub fn length2(&self) -> i128 {
+        (0..3).map(|axis| square(self.lo[axis]).max(square(self.hi[axis]))).sum()
     }
 }
 
@@ -67,20 +86,20 @@ fn square(it: i64) -> i128 {
 }
 
 /// Whether a value lies above the tolerance times a length, both squared.
-fn is_above(value: i64, tolerance: u32, length2: i128) -> bool {
+pub fn is_above(value: i64, tolerance: u32, length2: i128) -> bool {
     value > 0 && square(value) > square(i64::from(tolerance)) * length2
 }
 
 /// What refutes a cell: two points, by their numbers from 1.
-#[expect(dead_code, reason = "it is found and kept, and a reject prints only how much of it there is")]
-struct Evidence {
-    farthest: u32,
-    nearest: u32,
+#[derive(Clone, Copy)]
+pub struct Evidence {
+    pub farthest: u32,
+    pub nearest: u32,
 }
 
 /// Of the least values of the points along a box the first greatest, and of their greatest values the first least, where
 /// these two lie further apart than the tolerance along each direction of the box.
-fn first_evidence(rows: &[Row], tolerance: u32, within: &Directions) -> Option<Evidence> {
+pub fn first_evidence(rows: &[Row], tolerance: u32, within: &Directions) -> Option<Evidence> {
     let first = rows[0].at;
     let (mut farthest, mut nearest) = ((0, 0), (0, 0));
     for (at, row) in rows.iter().enumerate().skip(1) {
@@ -98,8 +117,7 @@ fn first_evidence(rows: &[Row], tolerance: u32, within: &Directions) -> Option<E
             nearest = (high, at);
         }
     }
-    let length2: i128 = (0..3).map(|axis| square(within.lo[axis]).max(square(within.hi[axis]))).sum();
-    is_above(farthest.0 - nearest.0, tolerance, length2)
+    is_above(farthest.0 - nearest.0, tolerance, within.length2())
         .then(|| Evidence { farthest: farthest.1 as u32 + 1, nearest: nearest.1 as u32 + 1 })
 }
 
@@ -112,7 +130,7 @@ fn spread(rows: &[Row], n: &[i64; 3]) -> i64 {
 }
 
 /// Whether the points lie within the tolerance along a direction.
-fn holds(rows: &[Row], tolerance: u32, n: &[i64; 3]) -> bool {
+pub fn holds(rows: &[Row], tolerance: u32, n: &[i64; 3]) -> bool {
     !is_above(spread(rows, n), tolerance, n.iter().map(|&it| square(it)).sum())
 }
 
@@ -129,34 +147,79 @@ fn bound(rows: &[Row], tolerance: u32, cell: &Cell, level: u32) -> Found {
     }
 }
 
-/// The line that is printed, and the status.
-///
-/// The evidence against each cell is kept, as a certificate of a reject or of an open would need it.
-pub fn judge(rows: &[Row], tolerance: u32, budget: u32) -> (String, u8) {
-    let mut cells: Vec<Cell> = (0..ROOTS).map(|axis| Cell { axis, index: [0; 2] }).collect();
-    let mut evidence: Vec<Evidence> = Vec::new();
+/// Why a search stops without a verdict.
+#[derive(Clone, Copy, PartialEq)]
+pub enum Reason {
+    Budget,
+    Floor,
+}
+
+impl Reason {
+    pub fn word(self) -> &'static str {
+        match self {
+            Reason::Budget => "budget",
+            Reason::Floor => "floor",
+        }
+    }
+}
+
+/// What refutes each cell of a level, in order, and nothing for an undecided one.
+pub type Level = Vec<Option<Evidence>>;
+
+/// How a search ends. Its levels are kept, as the certificate of a reject or of an open needs them.
+pub enum Outcome {
+    Accept { level: u32, cell: Cell },
+    Reject { levels: Vec<Level> },
+    Open { reason: Reason, level: u32, undecided: usize, spent: usize, levels: Vec<Level> },
+}
+
+impl Outcome {
+    /// The line that is printed, and the status.
+    pub fn answer(&self) -> (String, u8) {
+        match self {
+            Outcome::Accept { level, cell } => {
+                let [x, y, z] = cell.centre(*level);
+                (format!("accept level {level} direction {x} {y} {z}\n"), 0)
+            }
+            Outcome::Reject { levels } => (format!("reject leaves {}\n", levels.iter().flatten().flatten().count()), 1),
+            Outcome::Open { reason, level, undecided, spent, .. } => {
+                let reason = reason.word();
+                (format!("open {reason} level {level} undecided {undecided} spent {spent}\n"), 2)
+            }
+        }
+    }
+}
+
+/// How the search of a budget ends.
+pub fn judge(rows: &[Row], tolerance: u32, budget: u32) -> Outcome {
+    let mut cells = Cell::roots().to_vec();
+    let mut levels = Vec::new();
     let mut spent = 0;
     for level in 0..=FINEST {
         let found: Vec<Found> = cells.iter().map(|cell| bound(rows, tolerance, cell, level)).collect();
         let holding = found.iter().position(|it| matches!(it, Found::Undecided { holds: true }));
         if let Some(at) = holding {
-            let [x, y, z] = cells[at].centre(level);
-            return (format!("accept level {level} direction {x} {y} {z}\n"), 0);
+            return Outcome::Accept { level, cell: cells[at] };
         }
+        let mut kept = Level::with_capacity(cells.len());
         let mut halves = Vec::new();
         for (cell, found) in cells.iter().zip(found) {
             match found {
-                Found::Refuted(it) => evidence.push(it),
-                Found::Undecided { .. } => halves.extend([cell.half(level, 0), cell.half(level, 1)]),
+                Found::Refuted(it) => kept.push(Some(it)),
+                Found::Undecided { .. } => {
+                    kept.push(None);
+                    halves.extend([cell.half(level, 0), cell.half(level, 1)]);
+                }
             }
         }
+        levels.push(kept);
         let undecided = halves.len() / 2;
         if undecided == 0 {
-            return (format!("reject leaves {}\n", evidence.len()), 1);
+            return Outcome::Reject { levels };
         }
-        let reason = if level == FINEST { "floor" } else { "budget" };
         if level == FINEST || spent + undecided > budget as usize {
-            return (format!("open {reason} level {level} undecided {undecided} spent {spent}\n"), 2);
+            let reason = if level == FINEST { Reason::Floor } else { Reason::Budget };
+            return Outcome::Open { reason, level, undecided, spent, levels };
         }
         spent += undecided;
         cells = halves;

@@ -1,9 +1,15 @@
-//! `gdteval flat` in plain Rust, with the standard library alone: the same words, texts and statuses.
+//! `gdteval flat` and `gdteval checkflat` in plain Rust, with the standard library alone: the same words, texts and statuses.
+//! Of a certificate that is misspelled only the line is told as gdteval tells it, and not which of the codes 40 to 46.
 //! It is written for a fair comparison of time and as a second opinion on each answer. Nothing of it is proved.
 
+mod certificate;
+mod certificate_reader;
+mod check;
 mod flat;
 mod points;
 
+use certificate::{Certificate, Fault};
+use std::fs;
 use std::io::Write;
 use std::process::ExitCode;
 
@@ -17,32 +23,63 @@ fn number(word: &str, least: u32, greatest: u32) -> Option<u32> {
 }
 
 /// What is printed, and the status.
-fn answer(words: &[&str]) -> (String, u8) {
-    let &["flat", file, tolerance, budget] = words else {
-        return (WRONG_WORDS.into(), 4);
-    };
-    let (Some(tolerance), Some(budget)) = (number(tolerance, 0, 16_000_000), number(budget, 1, 1_000_000)) else {
-        return (WRONG_WORDS.into(), 4);
-    };
-    let bytes = match points::load(file) {
-        Ok(Some(bytes)) => bytes,
-        Ok(None) => return (format!("input {file} code 17 row 0 column 0\n"), 3),
-        Err(_) => return (format!("gdteval: cannot read {file}\n"), 5),
-    };
-    match points::read(&bytes) {
-        Ok(table) => flat::judge(&table.rows, tolerance, budget),
-        Err(fault) => {
-            let points::Fault { code, row, column } = fault;
-            (format!("input {file} code {code} row {row} column {column}\n"), 3)
-        }
+type Answer = (String, u8);
+
+fn wrong_words() -> Answer {
+    (WRONG_WORDS.into(), 4)
+}
+
+fn cannot_read(file: &str) -> Answer {
+    (format!("gdteval: cannot read {file}\n"), 5)
+}
+
+/// The table of a points file, or what is said of the file.
+fn table_of(file: &str) -> Result<points::Table, Answer> {
+    let refused = |code, row, column| (format!("input {file} code {code} row {row} column {column}\n"), 3);
+    let bytes = points::load(file).map_err(|_| cannot_read(file))?.ok_or_else(|| refused(17, 0, 0))?;
+    points::read(&bytes).map_err(|points::Fault { code, row, column }| refused(code, row, column))
+}
+
+/// Judges a points file, and stores the certificate where a file is named for it.
+fn judge(file: &str, tolerance: u32, budget: u32, stored: Option<&str>) -> Result<Answer, Answer> {
+    let table = table_of(file)?;
+    let outcome = flat::judge(&table.rows, tolerance, budget);
+    if let Some(stored) = stored {
+        fs::write(stored, Certificate::of(&outcome, budget).text()).map_err(|_| (String::new(), 6))?;
     }
+    Ok(outcome.answer())
+}
+
+/// Decides a certificate for a points file.
+fn check(file: &str, tolerance: u32, stored: &str) -> Result<Answer, Answer> {
+    let table = table_of(file)?;
+    let invalid = |Fault { line, code }| (format!("invalid line {line} code {code}\n"), 8);
+    let too_long = Fault { line: 0, code: 46 };
+    let bytes = points::load(stored).map_err(|_| cannot_read(stored))?.ok_or_else(|| invalid(too_long))?;
+    let certificate = certificate_reader::read(&bytes).map_err(invalid)?;
+    check::check(&table.rows, tolerance, &certificate).map_err(invalid)?;
+    Ok(("valid\n".into(), 0))
+}
+
+fn answer(words: &[&str]) -> Answer {
+    let tolerance_in = |word| number(word, 0, 16_000_000);
+    let said = match words {
+        &["flat", file, tolerance, budget, ref stored @ ..] if stored.len() <= 1 => tolerance_in(tolerance)
+            .zip(number(budget, 1, 1_000_000))
+            .map(|(tolerance, budget)| judge(file, tolerance, budget, stored.first().copied())),
+        &["checkflat", file, tolerance, stored] => {
+            tolerance_in(tolerance).map(|tolerance| check(file, tolerance, stored))
+        }
+        _ => None,
+    };
+    said.map_or_else(wrong_words, |it| it.unwrap_or_else(|refused| refused))
 }
 
 fn main() -> ExitCode {
     let words: Option<Vec<String>> = std::env::args_os().skip(1).map(|word| word.into_string().ok()).collect();
     let (text, status) = match &words {
         Some(words) => answer(&words.iter().map(String::as_str).collect::<Vec<_>>()),
-        None => (WRONG_WORDS.into(), 4),
+        None => wrong_words(),
     };
     let mut out = std::io::stdout().lock();
     match out.write_all(text.as_bytes()).and_then(|()| out.flush()) {

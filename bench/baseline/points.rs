@@ -9,17 +9,39 @@ const MOST_POINTS: usize = 200_000;
 const BYTE_ORDER_MARK: &[u8] = b"\xef\xbb\xbf";
 const HEADER: [&[u8]; 5] = [b"feature", b"group", b"x", b"y", b"z"];
 
-#[expect(dead_code, reason = "flat judges all points, whatever their feature and group")]
+#[expect(dead_code, reason = "flat judges all points by their columns, whatever their feature and group")]
 pub struct Row {
     pub feature: u32,
     pub group: u32,
     pub at: [i64; 3],
 }
 
+/// The coordinates of the points, axis by axis.
+#[derive(Clone, Copy)]
+pub struct Columns<'a> {
+    pub axes: [&'a [i32]; 3],
+}
+
+impl Columns<'_> {
+    /// The same, cut to one length that the compiler sees.
+    #[inline(always)]
+    pub fn same_length(&self) -> Self {
+        let count = self.axes[0].len();
+        Columns { axes: self.axes.map(|axis| &axis[..count]) }
+    }
+}
+
 #[derive(Default)]
 pub struct Table {
     pub rows: Vec<Row>,
+    pub axes: [Vec<i32>; 3],
     pub names: HashMap<Vec<u8>, u32>,
+}
+
+impl Table {
+    pub fn columns(&self) -> Columns<'_> {
+        Columns { axes: self.axes.each_ref().map(Vec::as_slice) }
+    }
 }
 
 pub struct Fault {
@@ -167,6 +189,9 @@ pub fn read(text: &[u8]) -> Result<Table, Fault> {
             }
         };
         table.rows.push(Row { feature, group, at });
+        for (axis, coordinate) in table.axes.iter_mut().zip(at) {
+            axis.push(coordinate as i32);
+        }
     }
     if table.rows.is_empty() {
         return Err(Fault { code: 16, row: 2, column: 0 });

@@ -50,7 +50,7 @@ zero_at zero k = refl
 zero_at (suc n) zero = refl
 zero_at (suc n) (suc k) = zero_at n k
 
-length-count_from : (a n : ℕ) → length (count_from a n) ≡ n
+pub length-count_from : (a n : ℕ) → length (count_from a n) ≡ n
 length-count_from a zero = refl
 length-count_from a (suc n) = ap suc (length-count_from (a + 1) n)
 
@@ -66,7 +66,7 @@ half_at steps dims r l p side small inside =
     index_at (λ c. index_of steps c l p) 0 dims (steps l) (replicate (12 - dims) 0) inside ∙ ap (λ c. index_of steps c l p) (omega arith) in
     rw (e, add-one, step_of_all steps l p side 0 dims (steps l) (replicate (12 - dims) 0) small (omega arith) inside) refl
 
-level_at : (steps : ℕ → ℕ) (dims r l p : ℕ) → (cell_at steps dims r l p).level ≡ l
+pub level_at : (steps : ℕ → ℕ) (dims r l p : ℕ) → (cell_at steps dims r l p).level ≡ l
 unfolding cell_at
 level_at steps dims r l p = refl
 

@@ -1,7 +1,7 @@
 -- The laws of a task: what its grid and its tests mean for the assignments that it judges.
 -- An assignment is a list of whole numbers, which each task lays out for itself. A task names which assignments are
 -- feasible, and which lie inside a cell.
-use Rattle.std.specs.Prelude.{ℕ, suc, ◌+◌, ◌*◌, ◌-◌, ◌^◌, ◌≤◌, ◌<◌, ◌≡◌, true, false, Some, None, List, ℤ, pos, ◌⊎◌, drop, replicate, unsigned_abs}
+use Rattle.std.specs.Prelude.{ℕ, suc, ◌+◌, ◌*◌, ◌-◌, ◌^◌, ◌≤◌, ◌<◌, ◌≡◌, true, false, Some, None, List, ℤ, pos, ◌⊎◌, drop, length, replicate, unsigned_abs}
 use Rattle.std.specs.List.{All}
 use Rattle.gd_cells.specs.Grid.{halvings}
 use Rattle.gd_cells.specs.Meaning.{IsCell, Questions, cell_of}
@@ -65,8 +65,9 @@ CentreInRange q = (c : Cell) → IsCell q c → q.in_range (q.centre c) ≡ true
 abbrev pub HoldsIsFeasible : Questions → (List ℤ → Type 0) → (Witness → List ℤ) → Type 0
 HoldsIsFeasible q feasible assignment = (w : Witness) → q.in_range w ≡ true → q.holds w ≡ true → feasible (assignment w)
 
--- the witness names a root, its numbers are below 2^62 in size, and those that the task doesn't have are 0
+-- the witness names a root, has room for 12 numbers, all below 2^62 in size, and those that the task doesn't have are 0
 pub record NamesPlace (q : Questions) (w : Witness) : Type 0 where
+  pub room : length w.at ≡ 12
   pub first : 1 ≤ w.root
   pub last : w.root ≤ q.roots
   pub sizes : All (λ x. unsigned_abs x < 2 ^ 62) w.at

@@ -35,6 +35,9 @@ pub trait Task: Sync {
     fn floor_level(&self) -> u32
         ensures { result ≡ (questions self.now).finest };
 
+    /// How many points the bounding of a cell looks at. A search decides by it whether a level is worth threads, and no answer depends on it.
+    fn points(&self) -> usize;
+
     /// The two halves of a cell above the last level, along the coordinate of its level's step: the lower one first.
     fn split(&self, cell: &Cell) -> (Cell, Cell)
         requires cell { IsCell (questions self.now) cell.now }

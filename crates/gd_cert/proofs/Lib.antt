@@ -1,3 +1,6 @@
+mod KnownTexts
+pub mod Sizes
+pub mod Writing
 pub mod Numbers
 pub mod Cuts
 pub mod Views

@@ -9,9 +9,11 @@ use Rattle.std.proofs.lemmas.List.Splits.{join_with_byte-slice_split}
 use Rattle.gd_cert.proofs.Found.{IsDraft, Stepped, counts_step, group_step, last_place, open_step, reject_step, told_lines, witness_step}
 use Rattle.gd_cert.proofs.Lines.{bind_ok, counts_found, heading_found, ok_same, passed, share_found, title_found, told_found, witness_found}
 use Rattle.gd_cert.specs.Bounds.{BodyFits, IsInBounds}
-use Rattle.gd_cert.specs.Reading.{Draft, at_stage, bodies_of, certificate_in, counts_in, drafted, drafted_from, empty_draft, heading_in, last_fault, lines_of, on_line, share_in, title_in, told_in, unless, with_body, with_line, with_line_at, witness_in}
+use Rattle.gd_cert.specs.Certificates.{Certificate}
+use Rattle.gd_cert.specs.Reading.{Draft, at_stage, bodies_of, certificate_in, counts_in, drafted, drafted_from, empty_draft, heading_in, last_fault, lines_of, on_line, reading, share_in, title_in, told_in, unless, with_body, with_line, with_line_at, witness_in}
 use Rattle.gd_cert.specs.Text.{first_lines, groups_lines, heading_words, line_text, lines, spaced, text, title}
-use Rattle.gd_cert.specs.Words.{pieces, words_of}
+use Rattle.gd_cert.specs.Words.{and_then_read, pieces, words_of}
+use Rattle.gd_cert.specs.declared.fault.CertFault.{CertFault}
 use Rattle.gd_cert.specs.declared.rule.Rule.{Rule}
 use Rattle.gd_cert.specs.declared.stage.Stage.{Stage}
 use Rattle.gd_cert.specs.declared.stage.Stage.TheVariants as stage
@@ -180,3 +182,14 @@ unfolding drafted text
 drafted_found bytes d h =
     let all = pieces_spelled 1 empty_draft d (pieces 10 bytes) fresh h in
     (all.bounds, sym (join_with_byte-slice_split 10 bytes) ∙ all.spelling, all.starts)
+
+taken : (bytes : List ℕ) (r : Result Draft CertFault) → drafted bytes ≡ r → (c : Certificate) → and_then_read r (λ d. Ok (certificate_in d)) ≡ Ok c → IsInBounds c × (bytes ≡ text c)
+taken bytes (Ok d) is c h =
+    let same : certificate_in d ≡ c = cc in
+    let found = drafted_found bytes d is in subst (λ e. IsInBounds e × (bytes ≡ text e)) same (found.0, found.1)
+taken bytes (Err f) is c h = cc
+
+-- what reading gives is in bounds, and all bytes spell it
+pub reading_takes : (bytes : List ℕ) (c : Certificate) → reading bytes ≡ Ok c → IsInBounds c × (bytes ≡ text c)
+unfolding reading
+reading_takes bytes c h = taken bytes (drafted bytes) refl c h

@@ -4,4 +4,5 @@ pub mod Bounds
 pub mod Rules
 pub mod Words
 pub mod Reading
+pub mod Sizes
 pub mod Drafts

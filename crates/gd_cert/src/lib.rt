@@ -4,7 +4,8 @@
 mod cert;
 mod draft;
 mod fault;
-pub mod laws;
+mod laws;
+mod lengths;
 mod line;
 mod number;
 mod read;
@@ -17,5 +18,10 @@ mod write;
 
 pub use cert::{Cert, CertBody, CertGroup, Head};
 pub use fault::{CertFault, CertReadFault};
+pub use laws::texts_differ;
+pub use lengths::{
+    show_groups_lie_within, show_kept_lines_lie_within, show_lines_are_few,
+    show_one_group_is_short, show_texts_are_short,
+};
 pub use read::read_cert;
 pub use write::write_cert;

@@ -1,17 +1,273 @@
-// The text of a certificate.
-ghost use Rattle.std.specs.Prelude.{◌≡◌, IfOk};
-ghost use Rattle.gd_cert.specs.Bounds.{IsInBounds};
-ghost use Rattle.gd_cert.specs.Certificates.{certificate_of};
-ghost use Rattle.gd_cert.specs.Text.{text};
+// The text of a certificate. Each function but the last appends its lines to a text.
+ghost use Rattle.std.specs.Prelude.{◌≡◌, ◌<◌, ◌^◌, ◌+◌, ◌∷◌, [], ◌++◌, IfOk, OnOk, codes, decimal, length, map};
+ghost use Rattle.std.specs.Fmt.{signed_decimal};
+ghost use Rattle.std.specs.List.{flat_map};
+ghost use Rattle.gd_cert.specs.Certificates.{body_of, certificate_of, heading_of};
+ghost use Rattle.gd_cert.specs.Text.{body_lines, groups_lines, heading_words, line_text, node_words, reason_word, text, verdict_word};
+ghost use Rattle.gd_cert.specs.declared.cert.CertGroup.{CertGroup};
 
-use crate::cert::Cert;
-use gd_base::Memory;
+use crate::cert::{Cert, CertBody, CertGroup, Head};
+use gd_base::{Memory, Reason};
+use gd_cells::Node;
+use itoa::{Buffer, Integer};
 use std::alloc::Global;
+
+// A space and a number.
+fn put_number<N: Integer>(text: &mut Vec<u8>, number: N) -> Result<(), Memory>
+    ensures { OnOk result (text.new.items ≡ text.old.items ++ 32 ∷ N.text number) }
+{
+    let mut buffer = Buffer::new();
+    text.push(b' ')?;
+    text.extend_from_slice(buffer.format(number).as_bytes())?;
+    Ok(())
+}
+
+// The line of a word and a number.
+fn put_count(text: &mut Vec<u8>, word: &[u8], count: u32) -> Result<(), Memory>
+    ensures { OnOk result (text.new.items ≡ text.old.items ++ line_text (word.now ∷ decimal count ∷ [])) }
+{
+    text.extend_from_slice(word)?;
+    put_number(text, count)?;
+    text.push(b'\n')?;
+    Ok(())
+}
+
+// The line of what the verdicts are for.
+fn put_heading(text: &mut Vec<u8>, head: &Head) -> Result<(), Memory>
+    ensures { OnOk result (text.new.items ≡ text.old.items ++ line_text (heading_words (heading_of head.now))) }
+{
+    match head {
+        Head::Plain => text.extend_from_slice(b"plain\n")?,
+        Head::Probe { name, tolerance } => {
+            text.extend_from_slice(b"probe ")?;
+            text.extend_from_slice(name.bytes())?;
+            put_number(text, *tolerance)?;
+            text.push(b'\n')?;
+        }
+    }
+    Ok(())
+}
+
+// The line of a cell.
+fn put_node(text: &mut Vec<u8>, node: &Node) -> Result<(), Memory>
+    ensures { OnOk result (text.new.items ≡ text.old.items ++ line_text (node_words node.now)) }
+{
+    match node {
+        Node::Split => text.extend_from_slice(b"s\n")?,
+        Node::Left => text.extend_from_slice(b"o\n")?,
+        Node::Refuted(evidence) => {
+            text.push(b'r')?;
+            put_number(text, evidence.condition)?;
+            put_number(text, evidence.a)?;
+            put_number(text, evidence.b)?;
+            text.push(b'\n')?;
+        }
+    }
+    Ok(())
+}
+
+// The lines of a tree.
+fn put_tree(text: &mut Vec<u8>, tree: &[Node]) -> Result<(), Memory>
+    ensures { OnOk result (text.new.items ≡ text.old.items ++ flat_map line_text (map node_words tree.now)) }
+{
+    for node in tree {
+        put_node(text, node)?;
+    }
+    Ok(())
+}
+
+// A space before each of some numbers.
+fn put_numbers(text: &mut Vec<u8>, numbers: &[i64]) -> Result<(), Memory>
+    ensures { OnOk result (text.new.items ≡ text.old.items ++ flat_map (λ z. 32 ∷ signed_decimal z) numbers.now) }
+{
+    for number in numbers {
+        put_number(text, *number)?;
+    }
+    Ok(())
+}
+
+// The line of a witness: its root and its numbers.
+#[tactic(auto, using(crate::proofs::Writing::witness_text))]
+fn put_witness(text: &mut Vec<u8>, root: u32, at: &[i64]) -> Result<(), Memory>
+    ensures { OnOk result (text.new.items ≡ text.old.items ++ line_text (codes "w" ∷ decimal root ∷ map signed_decimal at.now)) }
+{
+    text.push(b'w')?;
+    put_number(text, root)?;
+    put_numbers(text, at)?;
+    text.push(b'\n')?;
+    Ok(())
+}
+
+// The line of where a search stopped, and why.
+fn put_stop(
+    text: &mut Vec<u8>,
+    level: u32,
+    undecided: u32,
+    spent: u32,
+    reason: &Reason,
+) -> Result<(), Memory>
+    ensures { OnOk result (text.new.items ≡ text.old.items ++ line_text (codes "at" ∷ decimal level ∷ decimal undecided ∷ decimal spent ∷ reason_word reason.now ∷ [])) }
+{
+    text.extend_from_slice(b"at")?;
+    put_number(text, level)?;
+    put_number(text, undecided)?;
+    put_number(text, spent)?;
+    match reason {
+        Reason::Budget => text.extend_from_slice(b" budget\n")?,
+        Reason::Floor => text.extend_from_slice(b" floor\n")?,
+    }
+    Ok(())
+}
+
+// The first line of a group: its number and the word of its verdict.
+fn put_verdict(text: &mut Vec<u8>, number: usize, body: &CertBody) -> Result<(), Memory>
+    ensures { OnOk result (text.new.items ≡ text.old.items ++ line_text (codes "group" ∷ decimal number ∷ verdict_word (body_of body.now) ∷ [])) }
+{
+    text.extend_from_slice(b"group")?;
+    put_number(text, number)?;
+    match body {
+        CertBody::Accept { .. } => text.extend_from_slice(b" accept\n")?,
+        CertBody::Reject { .. } => text.extend_from_slice(b" reject\n")?,
+        CertBody::StillOpen { .. } => text.extend_from_slice(b" open\n")?,
+    }
+    Ok(())
+}
+
+// The lines of a group after its first.
+fn put_body(text: &mut Vec<u8>, body: &CertBody) -> Result<(), Memory>
+    ensures { OnOk result (text.new.items ≡ text.old.items ++ flat_map line_text (body_lines (body_of body.now))) }
+{
+    match body {
+        CertBody::Accept { root, at } => put_witness(text, *root, at),
+        CertBody::Reject { tree } => put_tree(text, tree),
+        CertBody::StillOpen {
+            level,
+            undecided,
+            spent,
+            reason,
+            tree,
+        } => {
+            put_stop(text, *level, *undecided, *spent, reason)?;
+            put_tree(text, tree)
+        }
+    }
+}
+
+// The lines of the groups, which are numbered from 1.
+fn put_groups(text: &mut Vec<u8>, groups: &[CertGroup]) -> Result<(), Memory>
+    ensures { OnOk result (text.new.items ≡ text.old.items ++ flat_map line_text (groups_lines 1 (map (λ (group : CertGroup). body_of group.body) groups.now))) }
+{
+    for (at, group) in groups.iter().enumerate() {
+        put_verdict(text, at + 1, &group.body)?;
+        put_body(text, &group.body)?;
+    }
+    Ok(())
+}
 
 /// The text of a certificate (docs/FORMATS.md, "Certificate"). The kept lines are no part of it.
 pub fn write_cert(alloc: Global, cert: &Cert) -> Result<Vec<u8>, Memory>
-    requires { IsInBounds (certificate_of cert.now) }
     ensures { IfOk result (λ v. v.items ≡ text (certificate_of cert.now)) }
 {
-    Err(Memory)
+    let mut text = Vec::from_slice(alloc, b"gdcert 1\n")?;
+    put_heading(&mut text, &cert.head)?;
+    put_count(&mut text, b"share", cert.share)?;
+    put_count(&mut text, b"groups", cert.told)?;
+    put_groups(&mut text, &cert.groups)?;
+    text.extend_from_slice(b"end\n")?;
+    Ok(text)
+}
+
+#[cfg(test)]
+mod tests {
+    use super::write_cert;
+    use crate::cert::{Cert, CertBody, CertGroup, Head};
+    use gd_base::{Memory, Name2, Reason};
+    use gd_cells::{Evidence, Node};
+    use std::alloc::Global;
+
+    // A certificate with each kind of line.
+    fn each_line(alloc: Global) -> Result<Cert, Memory> {
+        let e = |condition: u32, a: u32, b: u32| Node::Refuted(Evidence { condition, a, b });
+        let refuted = vec![in alloc; Node::Split, e(1, 2, 0), e(4_294_967_295, 200_000, 7)]?;
+        let floor = vec![in alloc; Node::Split, Node::Left, Node::Left]?;
+        let bodies = vec![in alloc;
+            CertBody::Accept {
+                root: 3,
+                at: vec![in alloc; 1_073_741_824, -5, 0]?
+            },
+            CertBody::Reject { tree: refuted },
+            CertBody::StillOpen {
+                level: 1,
+                undecided: 2,
+                spent: 10,
+                reason: Reason::Floor,
+                tree: floor
+            },
+            CertBody::StillOpen {
+                level: 0,
+                undecided: 1,
+                spent: 9,
+                reason: Reason::Budget,
+                tree: vec![in alloc; Node::Left]?
+            },
+        ]?;
+        let mut groups = Vec::new(alloc);
+        for body in bodies {
+            groups.push(CertGroup { line: 0, body })?;
+        }
+        let name = Name2::of(alloc, "top-1/2#flat")?;
+        Ok(Cert {
+            head: Head::Probe {
+                name,
+                tolerance: 16_000_000,
+            },
+            share: 1_000_000,
+            told: 300_000,
+            groups,
+        })
+    }
+
+    const EACH_LINE: &[u8] = b"gdcert 1\n\
+        probe top-1/2#flat 16000000\n\
+        share 1000000\n\
+        groups 300000\n\
+        group 1 accept\n\
+        w 3 1073741824 -5 0\n\
+        group 2 reject\n\
+        s\n\
+        r 1 2 0\n\
+        r 4294967295 200000 7\n\
+        group 3 open\n\
+        at 1 2 10 floor\n\
+        s\n\
+        o\n\
+        o\n\
+        group 4 open\n\
+        at 0 1 9 budget\n\
+        o\n\
+        end\n";
+
+    #[test]
+    fn texts(rt: HostRuntime) {
+        let cert = each_line(rt.alloc()).expect(&rt, "memory");
+        assert_eq!(rt;
+            write_cert(rt.alloc(), &cert)
+                .expect(&rt, "memory")
+                .as_slice(),
+            EACH_LINE
+        );
+        let empty = Cert {
+            head: Head::Plain,
+            share: 0,
+            told: 1,
+            groups: Vec::new(rt.alloc()),
+        };
+        let want: &[u8] = b"gdcert 1\nplain\nshare 0\ngroups 1\nend\n";
+        assert_eq!(rt;
+            write_cert(rt.alloc(), &empty)
+                .expect(&rt, "memory")
+                .as_slice(),
+            want
+        );
+    }
 }

@@ -1,5 +1,5 @@
 -- Sizes of short products and sums, and that they fit 64 bits.
-use Rattle.std.proofs.Common.{arith, ◌≡◌, refl, ℕ, ◌+◌, ◌*◌, ◌^◌, ◌≤◌, ◌<◌, ℤ, ◌+ℤ◌, ◌-ℤ◌, ◌*ℤ◌, unsigned_abs, FitsSigned, w64, to_z, of_z}
+use Rattle.std.proofs.Common.{arith, ◌≡◌, refl, ℕ, ◌+◌, ◌*◌, ◌^◌, ◌≤◌, ◌<◌, ℤ, ◌+ℤ◌, ◌-ℤ◌, ◌*ℤ◌, unsigned_abs, FitsSigned, w32, w64, to_z, of_z}
 use Rattle.std.proofs.lemmas.Int.{ints, clamps, fits_signed_from_abs, to_z-of_z, unsigned_abs-mul}
 use Rattle.std.proofs.lemmas.Nat.{mul-le}
 use Rattle.std.specs.Int.{int_max, int_min, w128}
@@ -9,6 +9,13 @@ use Rattle.gd_vec.specs.declared.vector.V3.{V3}
 -- the value that a 64-bit number keeps
 abbrev pub kept : ℤ → ℤ
 kept z = to_z w64 (of_z w64 z)
+
+-- the value that a 32-bit number keeps
+abbrev pub kept_short : ℤ → ℤ
+kept_short z = to_z w32 (of_z w32 z)
+
+pub kept_short-is : (z : ℤ) → unsigned_abs z ≤ 2 ^ 30 → kept_short z ≡ z
+kept_short-is z h = to_z-of_z w32 z (fits_signed_from_abs w32 z (omega (arith, h)))
 
 fits : (z : ℤ) → unsigned_abs z ≤ 2 ^ 60 → FitsSigned w64 z
 fits z h = fits_signed_from_abs w64 z (omega (arith, h))

@@ -1,5 +1,5 @@
 -- The written tests of flatness: when two points refute a box of directions, and when a direction holds.
-use Rattle.std.specs.Prelude.{ℕ, ◌+◌, ◌-◌, ℤ, pos, ◌+ℤ◌, ◌-ℤ◌, ◌*ℤ◌, Bool, ◌&&◌, nat_eq, nat_le, Option, Some, None, List, [], ◌∷◌, get_or, length, map, if◌then◌else◌}
+use Rattle.std.specs.Prelude.{ℕ, ◌≡◌, ◌^◌, ◌+◌, ◌-◌, ℤ, pos, ◌+ℤ◌, ◌-ℤ◌, ◌*ℤ◌, Bool, ◌&&◌, nat_eq, nat_le, Option, Some, None, List, [], ◌∷◌, get_or, length, map, if◌then◌else◌}
 use Rattle.std.specs.Int.{int_max, int_min}
 use Rattle.std.specs.List.{fold, position_or_len}
 use Rattle.std.specs.Ordering.{int_eq, is_gt, is_le}
@@ -18,6 +18,10 @@ scale_lo lo hi k = int_min (lo *ℤ k) (hi *ℤ k)
 abbrev pub scale_hi : ℤ → ℤ → ℤ → ℤ
 scale_hi lo hi k = int_max (lo *ℤ k) (hi *ℤ k)
 
+-- both ends of an entry are 1, as along the axis that leads
+abbrev pub AreOne : ℤ → ℤ → Type 0
+AreOne lo hi = (lo ≡ pos (2 ^ 30)) × (hi ≡ pos (2 ^ 30))
+
 -- the least and the greatest value of a vector along the directions of a box
 abbrev pub low_along : DirBox → V3 → ℤ
 low_along b d = scale_lo b.lo.x b.hi.x d.x +ℤ scale_lo b.lo.y b.hi.y d.y +ℤ scale_lo b.lo.z b.hi.z d.z
@@ -32,6 +36,10 @@ square_hi lo hi = int_max (lo *ℤ lo) (hi *ℤ hi)
 -- the greatest squared length of the directions of a box
 abbrev pub most_norm2 : DirBox → ℤ
 most_norm2 b = square_hi b.lo.x b.hi.x +ℤ square_hi b.lo.y b.hi.y +ℤ square_hi b.lo.z b.hi.z
+
+-- the point at a place, from 0
+abbrev pub point_at : List Row → ℕ → V3
+point_at rows i = (get_or rows i (record { feature = 0; group = 0; at = record { x = pos 0; y = pos 0; z = pos 0 } })).at
 
 -- the first judged point
 abbrev pub first_point : List Row → V3

@@ -1,39 +1,92 @@
 // The values of the points along the directions of a box. They don't depend on the tolerance.
-ghost use Rattle.std.specs.Prelude.{◌≡◌, ◌<◌, ◌≤◌, ◌^◌, ◌*◌, ◌-ℤ◌, unsigned_abs, cond, int_lt, length};
+ghost use Rattle.std.specs.Prelude.{◌≡◌, ◌<◌, ◌≤◌, ◌≤ℤ◌, ◌^◌, ◌*◌, ◌-ℤ◌, ◌*ℤ◌, false, true, pos, unsigned_abs, cond, get_or, int_lt, length, take};
 ghost use Rattle.std.specs.List.{All};
+ghost use Rattle.std.specs.Ordering.{int_eq};
 ghost use Rattle.gd_dir.specs.Boxes.{IsBox};
-ghost use Rattle.gd_form.specs.FlatTests.{farthest, greatest, high_along, highs, least, low_along, lows, nearest, scale_hi, scale_lo};
-ghost use Rattle.gd_vec.specs.Vector.{IsWithin, difference};
+ghost use Rattle.gd_form.specs.FlatTests.{AreOne, greatest, highs, least, lows, place_of, scale_hi, scale_lo};
 
-use crate::products::{sum, times};
+use crate::points::{Points, block_end, place_at};
+use crate::products::{short, sum, times};
 use gd_dir::DirBox;
-use gd_points::Row;
-use gd_vec::V3;
 
-// The least and the greatest value of a vector along the directions of a box, in units and 2^-30.
+/// 1 as an entry of a direction, in 2^-30.
+const ONE: i32 = 1 << 30;
+
+// The least and the greatest of some values, in units and 2^-30.
 #[derive(Clone, Copy)]
 pub struct Span {
     pub lo: i64,
     pub hi: i64,
 }
 
-// A value, in units and 2^-30, and the place of the point that has it first, from 0.
+// A value of some points, in units and 2^-30, and a place, from 0, before which no point has it.
 #[derive(Clone, Copy)]
 pub struct Extreme {
     pub value: i64,
-    pub at: usize,
+    pub from: usize,
 }
 
-// Of the points of a feature, the first whose least value is the greatest, and the first whose greatest value is the least.
+// Of the points of a feature, the greatest of the least values, and the least of the greatest values.
 #[derive(Clone, Copy)]
 pub struct Extremes {
     pub farthest: Extreme,
     pub nearest: Extreme,
 }
 
-// Both ends of an entry times a difference of coordinates, in order.
+// The axes along which both ends of a box are known to be 1, so that one product gives both.
+#[derive(Clone, Copy)]
+pub struct Leads {
+    pub x: bool,
+    pub y: bool,
+    pub z: bool,
+}
+
+/// No axis is known to lead.
+pub const NO_LEAD: Leads = Leads {
+    x: false,
+    y: false,
+    z: false,
+};
+
+// Whether both ends of an entry are 1.
+#[inline]
+fn are_one(lo: i64, hi: i64) -> bool
+    ensures { result ≡ true → AreOne lo hi }
+{
+    lo == i64::from(ONE) && hi == i64::from(ONE)
+}
+
+// 1 times a difference of coordinates.
 #[inline(always)]
-fn scale(lo: i64, hi: i64, by: i64) -> Span
+fn scale_one(by: i32) -> Span
+    requires { unsigned_abs by ≤ 16000000 }
+    ensures lo { result.lo ≡ pos (2 ^ 30) *ℤ by }
+    ensures hi { result.hi ≡ pos (2 ^ 30) *ℤ by }
+    ensures lo_size { unsigned_abs result.lo ≤ 2 ^ 54 }
+    ensures hi_size { unsigned_abs result.hi ≤ 2 ^ 54 }
+{
+    let value = times(ONE, by);
+    Span {
+        lo: value,
+        hi: value,
+    }
+}
+
+// One of two entries, by the sign of a difference of coordinates.
+#[inline(always)]
+fn end_by_sign(plus: i32, minus: i32, by: i32) -> i32
+    requires plus { unsigned_abs plus ≤ 2 ^ 30 }
+    requires minus { unsigned_abs minus ≤ 2 ^ 30 }
+    ensures value { result ≡ cond (int_lt by (pos 0)) minus plus }
+    ensures size { unsigned_abs result ≤ 2 ^ 30 }
+{
+    if by < 0 { minus } else { plus }
+}
+
+// Both ends of an entry times a difference of coordinates, in order. A negative difference turns them round.
+#[inline(always)]
+fn scale(lo: i32, hi: i32, by: i32) -> Span
+    requires order { lo ≤ℤ hi }
     requires lo { unsigned_abs lo ≤ 2 ^ 30 }
     requires hi { unsigned_abs hi ≤ 2 ^ 30 }
     requires by { unsigned_abs by ≤ 16000000 }
@@ -42,17 +95,15 @@ fn scale(lo: i64, hi: i64, by: i64) -> Span
     ensures lo_size { unsigned_abs result.lo ≤ 2 ^ 54 }
     ensures hi_size { unsigned_abs result.hi ≤ 2 ^ 54 }
 {
-    let p = times(lo, by);
-    let q = times(hi, by);
     Span {
-        lo: p.min(q),
-        hi: p.max(q),
+        lo: times(end_by_sign(lo, hi, by), by),
+        hi: times(end_by_sign(hi, lo, by), by),
     }
 }
 
 // The difference of two coordinates.
 #[inline(always)]
-fn apart(a: i64, b: i64) -> i64
+fn apart(a: i32, b: i32) -> i32
     requires a { unsigned_abs a ≤ 8000000 }
     requires b { unsigned_abs b ≤ 8000000 }
     ensures value { result ≡ a -ℤ b }
@@ -63,7 +114,9 @@ fn apart(a: i64, b: i64) -> i64
 
 // The span along one axis of a point, taken from the first point.
 #[inline(always)]
-fn along_axis(lo: i64, hi: i64, at: i64, first: i64) -> Span
+fn along_axis(leads: bool, lo: i64, hi: i64, at: i32, first: i32) -> Span
+    requires one { leads ≡ true → AreOne lo hi }
+    requires order { lo ≤ℤ hi }
     requires lo { unsigned_abs lo ≤ 2 ^ 30 }
     requires hi { unsigned_abs hi ≤ 2 ^ 30 }
     requires at { unsigned_abs at ≤ 8000000 }
@@ -73,75 +126,194 @@ fn along_axis(lo: i64, hi: i64, at: i64, first: i64) -> Span
     ensures lo_size { unsigned_abs result.lo ≤ 2 ^ 54 }
     ensures hi_size { unsigned_abs result.hi ≤ 2 ^ 54 }
 {
-    scale(lo, hi, apart(at, first))
+    let by = apart(at, first);
+    if leads {
+        scale_one(by)
+    } else {
+        scale(short(lo), short(hi), by)
+    }
 }
 
-// The span of a point, taken from the first point.
+// The least and the greatest value of the point at a place, taken from the first point.
 #[inline(always)]
-pub fn span_of(b: &DirBox, at: &V3, first: &V3) -> Span
+pub fn span_at(b: &DirBox, leads: Leads, points: &Points<'_>, at: usize) -> Span
     requires directions { IsBox b.now }
-    requires at { IsWithin 8000000 at.now }
-    requires first { IsWithin 8000000 first.now }
-    ensures lo { result.lo ≡ low_along b.now (difference at.now first.now) }
-    ensures hi { result.hi ≡ high_along b.now (difference at.now first.now) }
+    requires x { leads.x ≡ true → AreOne b.now.lo.x b.now.hi.x }
+    requires y { leads.y ≡ true → AreOne b.now.lo.y b.now.hi.y }
+    requires z { leads.z ≡ true → AreOne b.now.lo.z b.now.hi.z }
+    requires at { at < length points.now.rows.now }
+    ensures lo { result.lo ≡ get_or (lows b.now points.now.rows.now) at (pos 0) }
+    ensures hi { result.hi ≡ get_or (highs b.now points.now.rows.now) at (pos 0) }
     ensures lo_size { unsigned_abs result.lo ≤ 3 * 2 ^ 54 }
     ensures hi_size { unsigned_abs result.hi ≤ 3 * 2 ^ 54 }
 {
-    let x = along_axis(b.lo.x, b.hi.x, at.x, first.x);
-    let y = along_axis(b.lo.y, b.hi.y, at.y, first.y);
-    let z = along_axis(b.lo.z, b.hi.z, at.z, first.z);
+    let point = place_at(points, at);
+    let first = place_at(points, 0);
+    let x = along_axis(leads.x, b.lo.x, b.hi.x, point.x, first.x);
+    let y = along_axis(leads.y, b.lo.y, b.hi.y, point.y, first.y);
+    let z = along_axis(leads.z, b.lo.z, b.hi.z, point.z, first.z);
     Span {
         lo: sum(x.lo, y.lo, z.lo),
         hi: sum(x.hi, y.hi, z.hi),
     }
 }
 
-// The greater of the best so far and a new value. On a tie the first stays.
+// The greatest least value and the least greatest value of the points before a place, from those before an earlier one.
 #[inline(always)]
-fn greater(best: Extreme, value: i64, at: usize) -> Extreme
-    ensures { result ≡ cond (int_lt best.value value) (record { value = value; at = at }) best }
+fn ends_by(
+    b: &DirBox,
+    leads: Leads,
+    points: &Points<'_>,
+    before: Span,
+    from: usize,
+    to: usize,
+) -> Span
+    requires directions { IsBox b.now }
+    requires x { leads.x ≡ true → AreOne b.now.lo.x b.now.hi.x }
+    requires y { leads.y ≡ true → AreOne b.now.lo.y b.now.hi.y }
+    requires z { leads.z ≡ true → AreOne b.now.lo.z b.now.hi.z }
+    requires from { 0 < from }
+    requires order { from ≤ to }
+    requires to { to ≤ length points.now.rows.now }
+    requires lo { before.lo ≡ greatest (take from (lows b.now points.now.rows.now)) }
+    requires hi { before.hi ≡ least (take from (highs b.now points.now.rows.now)) }
+    requires lo_size { unsigned_abs before.lo ≤ 3 * 2 ^ 54 }
+    requires hi_size { unsigned_abs before.hi ≤ 3 * 2 ^ 54 }
+    ensures lo { result.lo ≡ greatest (take to (lows b.now points.now.rows.now)) }
+    ensures hi { result.hi ≡ least (take to (highs b.now points.now.rows.now)) }
+    ensures lo_more { before.lo ≤ℤ result.lo }
+    ensures hi_less { result.hi ≤ℤ before.hi }
+    ensures lo_size { unsigned_abs result.lo ≤ 3 * 2 ^ 54 }
+    ensures hi_size { unsigned_abs result.hi ≤ 3 * 2 ^ 54 }
+{
+    let mut most = before.lo;
+    let mut least = before.hi;
+    for at in from..to {
+        let span = span_at(b, leads, points, at);
+        most = most.max(span.lo);
+        least = least.min(span.hi);
+    }
+    Span {
+        lo: most,
+        hi: least,
+    }
+}
+
+// The same, by the axis that leads: each has a loop of its own.
+fn ends_to(b: &DirBox, points: &Points<'_>, before: Span, from: usize, to: usize) -> Span
+    requires directions { IsBox b.now }
+    requires from { 0 < from }
+    requires order { from ≤ to }
+    requires to { to ≤ length points.now.rows.now }
+    requires lo { before.lo ≡ greatest (take from (lows b.now points.now.rows.now)) }
+    requires hi { before.hi ≡ least (take from (highs b.now points.now.rows.now)) }
+    requires lo_size { unsigned_abs before.lo ≤ 3 * 2 ^ 54 }
+    requires hi_size { unsigned_abs before.hi ≤ 3 * 2 ^ 54 }
+    ensures lo { result.lo ≡ greatest (take to (lows b.now points.now.rows.now)) }
+    ensures hi { result.hi ≡ least (take to (highs b.now points.now.rows.now)) }
+    ensures lo_more { before.lo ≤ℤ result.lo }
+    ensures hi_less { result.hi ≤ℤ before.hi }
+    ensures lo_size { unsigned_abs result.lo ≤ 3 * 2 ^ 54 }
+    ensures hi_size { unsigned_abs result.hi ≤ 3 * 2 ^ 54 }
+{
+    if are_one(b.lo.x, b.hi.x) {
+        ends_by(b, Leads { x: true, ..NO_LEAD }, points, before, from, to)
+    } else if are_one(b.lo.y, b.hi.y) {
+        ends_by(b, Leads { y: true, ..NO_LEAD }, points, before, from, to)
+    } else if are_one(b.lo.z, b.hi.z) {
+        ends_by(b, Leads { z: true, ..NO_LEAD }, points, before, from, to)
+    } else {
+        ends_by(b, NO_LEAD, points, before, from, to)
+    }
+}
+
+// The greater of the best so far and that of a further block. On a tie the first stays.
+#[inline]
+fn greater(best: Extreme, value: i64, from: usize) -> Extreme
+    ensures { result ≡ cond (int_lt best.value value) (record { value = value; from = from }) best }
 {
     if best.value < value {
-        Extreme { value, at }
+        Extreme { value, from }
     } else {
         best
     }
 }
 
-// The lesser of the best so far and a new value. On a tie the first stays.
-#[inline(always)]
-fn lesser(best: Extreme, value: i64, at: usize) -> Extreme
-    ensures { result ≡ cond (int_lt value best.value) (record { value = value; at = at }) best }
+// The lesser of the best so far and that of a further block. On a tie the first stays.
+#[inline]
+fn lesser(best: Extreme, value: i64, from: usize) -> Extreme
+    ensures { result ≡ cond (int_lt value best.value) (record { value = value; from = from }) best }
 {
     if value < best.value {
-        Extreme { value, at }
+        Extreme { value, from }
     } else {
         best
     }
 }
 
-// The extremes of the points along the directions of a box: of each point the span, and no root and no division.
-pub fn extremes_along(b: &DirBox, rows: &[Row]) -> Extremes
-    requires directions { IsBox b.now }
-    requires some { 0 < length rows.now }
-    requires points { All (λ row. IsWithin 8000000 row.at) rows.now }
-    ensures greatest_lo { result.farthest.value ≡ greatest (lows b.now rows.now) }
-    ensures farthest { result.farthest.at ≡ farthest b.now rows.now }
-    ensures least_hi { result.nearest.value ≡ least (highs b.now rows.now) }
-    ensures nearest { result.nearest.at ≡ nearest b.now rows.now }
+// The extremes of the points along the directions of a box, and the blocks that have them first.
+pub fn extremes_along(b: &DirBox, points: &Points<'_>) -> Extremes
+    requires { IsBox b.now }
+    ensures greatest_lo { result.farthest.value ≡ greatest (lows b.now points.now.rows.now) }
+    ensures farthest { All (λ value. int_eq result.farthest.value value ≡ false) (take result.farthest.from (lows b.now points.now.rows.now)) }
+    ensures least_hi { result.nearest.value ≡ least (highs b.now points.now.rows.now) }
+    ensures nearest { All (λ value. int_eq result.nearest.value value ≡ false) (take result.nearest.from (highs b.now points.now.rows.now)) }
     ensures lo_size { unsigned_abs result.farthest.value ≤ 3 * 2 ^ 54 }
     ensures hi_size { unsigned_abs result.nearest.value ≤ 3 * 2 ^ 54 }
-    ensures lo_place { result.farthest.at < length rows.now }
-    ensures hi_place { result.nearest.at < length rows.now }
+    ensures lo_place { result.farthest.from ≤ length points.now.rows.now }
+    ensures hi_place { result.nearest.from ≤ length points.now.rows.now }
 {
-    let first = rows[0].at;
-    let here = Extreme { value: 0, at: 0 };
+    let count = points.rows.len();
+    let here = Extreme { value: 0, from: 0 };
     let mut farthest = here;
     let mut nearest = here;
-    for at in 1..rows.len() {
-        let span = span_of(b, &rows[at].at, &first);
-        farthest = greater(farthest, span.lo, at);
-        nearest = lesser(nearest, span.hi, at);
+    let mut from = 1;
+    while from < count {
+        let to = block_end(from, count);
+        let before = Span {
+            lo: farthest.value,
+            hi: nearest.value,
+        };
+        let ends = ends_to(b, points, before, from, to);
+        farthest = greater(farthest, ends.lo, from);
+        nearest = lesser(nearest, ends.hi, from);
+        from = to;
     }
     Extremes { farthest, nearest }
+}
+
+// The first point that has this least value, where no point before has it.
+pub fn first_low(b: &DirBox, points: &Points<'_>, far: Extreme) -> usize
+    requires directions { IsBox b.now }
+    requires before { All (λ value. int_eq far.value value ≡ false) (take far.from (lows b.now points.now.rows.now)) }
+    requires size { unsigned_abs far.value ≤ 3 * 2 ^ 54 }
+    requires from { far.from ≤ length points.now.rows.now }
+    ensures place { result ≡ place_of far.value (lows b.now points.now.rows.now) }
+    ensures inside { result ≤ length points.now.rows.now }
+{
+    let count = points.rows.len();
+    for at in far.from..count {
+        if span_at(b, NO_LEAD, points, at).lo == far.value {
+            return at;
+        }
+    }
+    count
+}
+
+// The first point that has this greatest value, where no point before has it.
+pub fn first_high(b: &DirBox, points: &Points<'_>, near: Extreme) -> usize
+    requires directions { IsBox b.now }
+    requires before { All (λ value. int_eq near.value value ≡ false) (take near.from (highs b.now points.now.rows.now)) }
+    requires size { unsigned_abs near.value ≤ 3 * 2 ^ 54 }
+    requires from { near.from ≤ length points.now.rows.now }
+    ensures place { result ≡ place_of near.value (highs b.now points.now.rows.now) }
+    ensures inside { result ≤ length points.now.rows.now }
+{
+    let count = points.rows.len();
+    for at in near.from..count {
+        if span_at(b, NO_LEAD, points, at).hi == near.value {
+            return at;
+        }
+    }
+    count
 }

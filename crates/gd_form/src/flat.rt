@@ -1,17 +1,17 @@
 // What refutes a box of directions for flatness.
-ghost use Rattle.std.specs.Prelude.{◌≡◌, ◌<◌, ◌≤◌, ◌^◌, ◌*◌, ◌-ℤ◌, ◌*ℤ◌, ◌≤ℤ◌, pos, unsigned_abs, length, nat_le, ◌&&◌};
+ghost use Rattle.std.specs.Prelude.{◌≡◌, ◌<◌, ◌≤◌, ◌^◌, ◌*◌, ◌-ℤ◌, ◌*ℤ◌, ◌≤ℤ◌, pos, false, unsigned_abs, length, nat_le, take, ◌&&◌};
 ghost use Rattle.std.specs.List.{All};
-ghost use Rattle.std.specs.Ordering.{is_gt};
+ghost use Rattle.std.specs.Ordering.{int_eq, is_gt};
 ghost use Rattle.gd_dir.specs.Boxes.{IsBox};
-ghost use Rattle.gd_form.specs.FlatTests.{first_evidence, is_point, is_refuted, most_norm2, parts, square_hi};
+ghost use Rattle.gd_form.specs.FlatTests.{evidence_of, first_evidence, highs, is_point, is_refuted, lows, most_norm2, parts, place_of, square_hi};
 ghost use Rattle.gd_int.specs.Roots.{cmp_root_of};
 ghost use Rattle.gd_vec.specs.Vector.{IsWithin};
 
-use crate::extremes::{extremes_along, span_of};
+use crate::extremes::{Extremes, NO_LEAD, extremes_along, first_high, first_low, span_at};
+use crate::points::Points;
 use gd_cells::Evidence;
 use gd_dir::DirBox;
 use gd_int::cmp_root;
-use gd_points::Row;
 
 /// The number of the one condition of flatness.
 const FLATNESS: u32 = 1;
@@ -63,67 +63,77 @@ fn are_parted(b: &DirBox, lo: i64, hi: i64, tolerance: u32) -> bool
 }
 
 /// The first evidence that refutes a box: the farthest point and the nearest.
-pub fn first_evidence_in(b: &DirBox, rows: &[Row], tolerance: u32) -> Option<Evidence>
+pub fn first_evidence_in(b: &DirBox, points: &Points<'_>, tolerance: u32) -> Option<Evidence>
     requires directions { IsBox b.now }
-    requires some { 0 < length rows.now }
-    requires few { length rows.now ≤ 200000 }
-    requires points { All (λ row. IsWithin 8000000 row.at) rows.now }
     requires tolerance { tolerance ≤ 16000000 }
-    ensures { result ≡ first_evidence rows.now tolerance b.now }
+    ensures { result ≡ first_evidence points.now.rows.now tolerance b.now }
 {
-    let extremes = extremes_along(b, rows);
+    let extremes = extremes_along(b, points);
     if are_parted(
         b,
         extremes.farthest.value,
         extremes.nearest.value,
         tolerance,
     ) {
-        Some(Evidence {
-            condition: FLATNESS,
-            a: extremes.farthest.at as u32 + 1,
-            b: extremes.nearest.at as u32 + 1,
-        })
+        Some(evidence_at(b, points, extremes))
     } else {
         None
     }
 }
 
+// The evidence of the first points that have these extremes.
+fn evidence_at(b: &DirBox, points: &Points<'_>, extremes: Extremes) -> Evidence
+    requires directions { IsBox b.now }
+    requires farthest { All (λ value. int_eq extremes.farthest.value value ≡ false) (take extremes.farthest.from (lows b.now points.now.rows.now)) }
+    requires nearest { All (λ value. int_eq extremes.nearest.value value ≡ false) (take extremes.nearest.from (highs b.now points.now.rows.now)) }
+    requires lo_size { unsigned_abs extremes.farthest.value ≤ 3 * 2 ^ 54 }
+    requires hi_size { unsigned_abs extremes.nearest.value ≤ 3 * 2 ^ 54 }
+    requires lo_place { extremes.farthest.from ≤ length points.now.rows.now }
+    requires hi_place { extremes.nearest.from ≤ length points.now.rows.now }
+    ensures { result ≡ evidence_of (place_of extremes.farthest.value (lows b.now points.now.rows.now)) (place_of extremes.nearest.value (highs b.now points.now.rows.now)) }
+{
+    let far = first_low(b, points, extremes.farthest);
+    let near = first_high(b, points, extremes.nearest);
+    Evidence {
+        condition: FLATNESS,
+        a: far as u32 + 1,
+        b: near as u32 + 1,
+    }
+}
+
 // Whether this is the number of a point, from 1.
 #[inline]
-fn names_a_point(number: u32, rows: &[Row]) -> bool
-    ensures { result ≡ is_point rows.now number }
+fn names_a_point(number: u32, points: &Points<'_>) -> bool
+    ensures { result ≡ is_point points.now.rows.now number }
 {
-    1 <= number && number as usize <= rows.len()
+    1 <= number && number as usize <= points.rows.len()
 }
 
 // Whether the points at two places, from 0, part a box.
-fn places_part(b: &DirBox, rows: &[Row], tolerance: u32, far: usize, near: usize) -> bool
+fn places_part(b: &DirBox, points: &Points<'_>, tolerance: u32, far: usize, near: usize) -> bool
     requires directions { IsBox b.now }
-    requires points { All (λ row. IsWithin 8000000 row.at) rows.now }
     requires tolerance { tolerance ≤ 16000000 }
-    requires far { far < length rows.now }
-    requires near { near < length rows.now }
-    ensures { result ≡ parts rows.now tolerance b.now far near }
+    requires far { far < length points.now.rows.now }
+    requires near { near < length points.now.rows.now }
+    ensures { result ≡ parts points.now.rows.now tolerance b.now far near }
 {
-    let first = rows[0].at;
-    let lo = span_of(b, &rows[far].at, &first).lo;
-    let hi = span_of(b, &rows[near].at, &first).hi;
+    let lo = span_at(b, NO_LEAD, points, far).lo;
+    let hi = span_at(b, NO_LEAD, points, near).hi;
     are_parted(b, lo, hi, tolerance)
 }
 
 /// Whether this evidence refutes a box.
-pub fn is_refuted_at(b: &DirBox, rows: &[Row], tolerance: u32, evidence: &Evidence) -> bool
+pub fn is_refuted_at(b: &DirBox, points: &Points<'_>, tolerance: u32, evidence: &Evidence) -> bool
     requires directions { IsBox b.now }
-    requires points { All (λ row. IsWithin 8000000 row.at) rows.now }
     requires tolerance { tolerance ≤ 16000000 }
-    ensures { result ≡ is_refuted rows.now tolerance b.now evidence.now }
+    ensures { result ≡ is_refuted points.now.rows.now tolerance b.now evidence.now }
 {
     evidence.condition == FLATNESS
-        && names_a_point(evidence.a, rows)
-        && names_a_point(evidence.b, rows)
+        && names_a_point(evidence.a, points)
+        && names_a_point(evidence.b, points)
         && places_part(
             b,
-            rows,
+            points,
             tolerance,
             evidence.a as usize - 1,
             evidence.b as usize - 1,
@@ -135,12 +145,12 @@ mod tests {
     use super::*;
     use gd_cells::root_cell;
     use gd_dir::{FormShape, dir_box};
+    use gd_points::{Columns, Row};
     use gd_vec::V3;
 
     // A point of the one feature.
     fn row(x: i64, y: i64, z: i64) -> Row
-        requires { IsWithin 8000000 (record { x = x; y = y; z = z }) }
-        ensures { IsWithin 8000000 result.at }
+        ensures { result.at ≡ record { x = x; y = y; z = z } }
     {
         Row {
             feature: 0,
@@ -154,12 +164,19 @@ mod tests {
         requires first { 1 ≤ root }
         requires last { root ≤ 3 }
     {
-        let corner = [
-            row(0, 0, 0),
-            row(1000, 0, 0),
-            row(0, 1000, 0),
-            row(0, 0, 1000),
-        ];
+        let corner = Points {
+            rows: &[
+                row(0, 0, 0),
+                row(1000, 0, 0),
+                row(0, 1000, 0),
+                row(0, 0, 1000),
+            ],
+            columns: Columns {
+                x: &[0, 1000, 0, 0],
+                y: &[0, 0, 1000, 0],
+                z: &[0, 0, 0, 1000],
+            },
+        };
         let face = dir_box(FormShape::Flat, &root_cell(root));
         first_evidence_in(&face, &corner, 10)
     }

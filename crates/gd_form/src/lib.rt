@@ -3,8 +3,10 @@
 
 mod extremes;
 mod flat;
+mod points;
 mod products;
 mod spread;
 mod task;
 
+pub use points::Points;
 pub use task::{FormTask, flat_task};

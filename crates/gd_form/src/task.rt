@@ -8,10 +8,11 @@ ghost use Rattle.gd_form.specs.FlatTask.{IsFeasible, IsInside, assignment_of, di
 ghost use Rattle.gd_vec.specs.Vector.{IsWithin};
 
 use crate::flat::{first_evidence_in, is_refuted_at};
+use crate::points::Points;
 use crate::spread::lies_within;
 use gd_cells::{Cell, Evidence, Task, Witness, split_cell};
 use gd_dir::{FormShape, centre_of, dir_box, direction};
-use gd_points::{PointTable, Row};
+use gd_points::PointTable;
 
 /// The ratios -1 and 1 have this size, in 2^-30.
 const ONE: u64 = 1 << 30;
@@ -20,11 +21,8 @@ const ONE: u64 = 1 << 30;
 /// that lie the tolerance apart. The cells are boxes of directions on three faces of a cube. A witness is a face and two ratios in 2^-30.
 #[derive(Clone, Copy)]
 pub struct FormTask<'a> {
-    pub rows: &'a Vec<Row>,
+    pub points: Points<'a>,
     pub tolerance: u32,
-    ghost some: { 0 < length rows.now.items },
-    ghost few: { length rows.now.items ≤ 200000 },
-    ghost within: { All (λ row. IsWithin 8000000 row.at) rows.now.items },
     ghost tolerable: { tolerance ≤ 16000000 },
 }
 
@@ -32,19 +30,22 @@ pub struct FormTask<'a> {
 pub fn flat_task(table: &PointTable, tolerance: u32) -> FormTask<'_>
     requires some { 0 < length table.now.rows }
     requires tolerance { tolerance ≤ 16000000 }
-    ensures rows { result.rows.now.items ≡ table.now.rows }
+    ensures rows { result.points.rows.now ≡ table.now.rows }
     ensures tolerance { result.tolerance ≡ tolerance }
 {
     FormTask {
-        rows: table.rows(),
+        points: Points {
+            rows: table.rows().as_slice(),
+            columns: table.columns(),
+        },
         tolerance,
     }
 }
 
 impl<'a> Task for FormTask<'a> {
-    ghost questions = { λ s. questions_of s.rows.now.items s.tolerance };
+    ghost questions = { λ s. questions_of s.points.rows.now s.tolerance };
 
-    ghost feasible = { λ s a. IsFeasible s.rows.now.items s.tolerance a };
+    ghost feasible = { λ s a. IsFeasible s.points.rows.now s.tolerance a };
 
     ghost inside = { λ s a c. IsInside a c };
 
@@ -66,18 +67,26 @@ impl<'a> Task for FormTask<'a> {
         60
     }
 
+    fn points(&self) -> usize {
+        self.points.rows.len()
+    }
+
     fn split(&self, cell: &Cell) -> (Cell, Cell) {
         split_cell(cell, cell.level as usize % 2)
     }
 
     fn refutes(&self, cell: &Cell) -> Option<Evidence> {
-        first_evidence_in(&dir_box(FormShape::Flat, cell), self.rows, self.tolerance)
+        first_evidence_in(
+            &dir_box(FormShape::Flat, cell),
+            &self.points,
+            self.tolerance,
+        )
     }
 
     fn refutes_at(&self, cell: &Cell, evidence: &Evidence) -> bool {
         is_refuted_at(
             &dir_box(FormShape::Flat, cell),
-            self.rows,
+            &self.points,
             self.tolerance,
             evidence,
         )
@@ -104,28 +113,28 @@ impl<'a> Task for FormTask<'a> {
 
     fn holds(&self, witness: &Witness) -> bool {
         let n = direction(witness.root, witness.at[0], witness.at[1]);
-        lies_within(&n, self.rows, self.tolerance)
+        lies_within(&n, &self.points, self.tolerance)
     }
 
-    ghost is_grid = { λ t. flat_grid t.rows.now.items t.tolerance };
+    ghost is_grid = { λ t. flat_grid t.points.rows.now t.tolerance };
 
-    ghost roots_cover = { λ t. flat_roots_cover t.rows.now.items t.tolerance };
+    ghost roots_cover = { λ t. flat_roots_cover t.points.rows.now t.tolerance };
 
-    ghost halves_cover = { λ t. flat_halves_cover t.rows.now.items t.tolerance };
+    ghost halves_cover = { λ t. flat_halves_cover t.points.rows.now t.tolerance };
 
-    ghost first_refutes = { λ t. flat_first_refutes t.rows.now.items t.tolerance t.some };
+    ghost first_refutes = { λ t. flat_first_refutes t.points.rows.now t.tolerance t.points.some };
 
-    ghost none_refutes = { λ t. flat_none_refutes t.rows.now.items t.tolerance };
+    ghost none_refutes = { λ t. flat_none_refutes t.points.rows.now t.tolerance };
 
-    ghost first_is_short = { λ t. flat_first_is_short t.rows.now.items t.tolerance t.some t.few };
+    ghost first_is_short = { λ t. flat_first_is_short t.points.rows.now t.tolerance t.points.some t.points.few };
 
-    ghost refuted_is_empty = { λ t. flat_refuted_is_empty t.rows.now.items t.tolerance };
+    ghost refuted_is_empty = { λ t. flat_refuted_is_empty t.points.rows.now t.tolerance };
 
-    ghost centre_in_range = { λ t. flat_centre_in_range t.rows.now.items t.tolerance };
+    ghost centre_in_range = { λ t. flat_centre_in_range t.points.rows.now t.tolerance };
 
-    ghost holds_is_feasible = { λ t. flat_holds_is_feasible t.rows.now.items t.tolerance };
+    ghost holds_is_feasible = { λ t. flat_holds_is_feasible t.points.rows.now t.tolerance };
 
-    ghost centre_names_place = { λ t. flat_centre_names_place t.rows.now.items t.tolerance };
+    ghost centre_names_place = { λ t. flat_centre_names_place t.points.rows.now t.tolerance };
 }
 
 // Whether a ratio in 2^-30 lies between -1 and 1.

@@ -1,6 +1,8 @@
+mod Beside
 pub mod Records
 pub mod Fields
 pub mod Again
 pub mod Marks
 pub mod Used
 mod KnownValues
+pub mod Tables

@@ -1,6 +1,7 @@
 pub mod Numbers
 pub mod Rules
 pub mod Table
+pub mod Columns
 pub mod Points
 pub mod Parts
 pub mod Reader

@@ -1,6 +1,7 @@
 //! The points of a part, and the file that they are read from.
 #![tactic(auto)]
 
+mod columns;
 mod number;
 mod read;
 mod rule;
@@ -8,6 +9,7 @@ mod table;
 #[cfg(test)]
 mod tests;
 
+pub use columns::Columns;
 pub use read::read_points;
 pub use rule::Rule;
 pub use table::{PointTable, Row};

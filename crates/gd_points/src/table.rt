@@ -3,8 +3,10 @@ ghost use Rattle.std.specs.Prelude.{◌≡◌, ◌<◌, ◌≤◌, ◌^◌, [], 
 ghost use Rattle.gd_base.specs.Names.{is_name};
 ghost use Rattle.std.specs.Cmp.Lexicographic.{pointwise};
 ghost use Rattle.std.specs.List.{All, Any};
+ghost use Rattle.gd_points.specs.Columns.{AreColumns};
 ghost use Rattle.gd_vec.specs.Vector.{IsWithin};
 
+use crate::columns::{ColumnLists, Columns};
 use gd_base::{Memory, Name};
 use gd_vec::V3;
 use indexmap::IndexSet;
@@ -25,17 +27,19 @@ pub struct Row {
 #[derive(Drop)]
 pub struct PointTable {
     rows: Vec<Row>,
+    columns: ColumnLists,
     names: IndexSet<Name>,
 }
 
 impl Model for PointTable {
-    ghost use Rattle.gd_points.specs.Table.{Table, IsTable};
+    ghost use Rattle.gd_points.specs.Columns.{HasColumns};
+    ghost use Rattle.gd_points.specs.Table.{Table};
 
     ghost Value = { Table };
 
     ghost view = { λ t. record { rows = t.rows.items; names = t.names.keys } };
 
-    ghost invariant = { λ t. IsTable (record { rows = t.rows.items; names = t.names.keys }) };
+    ghost invariant = { λ t. HasColumns (record { rows = t.rows.items; names = t.names.keys }) t.columns.x.items t.columns.y.items t.columns.z.items };
 }
 
 impl PointTable {
@@ -47,6 +51,7 @@ impl PointTable {
     {
         PointTable {
             rows: Vec::new(alloc),
+            columns: ColumnLists::new(alloc),
             names: IndexSet::new(alloc),
         }
     }
@@ -62,6 +67,7 @@ impl PointTable {
         ensures err { OnErr result (self.new ≡ self.old) }
     {
         self.rows.reserve(1)?;
+        self.columns.reserve()?;
         let (feature, _) = self.names.insert_full(name)?;
         let row = Row {
             feature: feature as u32,
@@ -69,6 +75,7 @@ impl PointTable {
             at,
         };
         self.rows.push_reserved(row);
+        self.columns.push_reserved(&at);
         Ok(())
     }
 
@@ -82,7 +89,10 @@ impl PointTable {
         ensures ok { OnOk result (self.new ≡ with_point self.old (get_or self.old.names feature []) group at) }
         ensures err { OnErr result (self.new ≡ self.old) }
     {
-        self.rows.push(Row { feature, group, at })?;
+        self.rows.reserve(1)?;
+        self.columns.reserve()?;
+        self.rows.push_reserved(Row { feature, group, at });
+        self.columns.push_reserved(&at);
         Ok(())
     }
 
@@ -109,6 +119,17 @@ impl PointTable {
         ensures within { All (λ row. IsWithin 8000000 row.at) result.now.items }
     {
         &self.rows
+    }
+
+    /// The coordinates of the points in order.
+    pub fn columns(&self) -> Columns<'_>
+        ensures { AreColumns result.x.now result.y.now result.z.now self.now.rows }
+    {
+        Columns {
+            x: self.columns.x.as_slice(),
+            y: self.columns.y.as_slice(),
+            z: self.columns.z.as_slice(),
+        }
     }
 
     /// How many features have points. Their numbers are those below it.

@@ -1,4 +1,5 @@
-pub mod Accepted
-pub mod FourWords
-pub mod Says
-pub mod Tables
+pub mod Claimed
+pub mod FiveWords
+pub mod Moved
+pub mod Certified
+pub mod Reported

@@ -1,6 +1,9 @@
 pub mod Words
 pub mod Commands
 pub mod Texts
-pub mod Answer
+pub mod Answers
+pub mod Claims
+pub mod Endings
 pub mod Lines
+pub mod Reports
 pub mod Outcomes

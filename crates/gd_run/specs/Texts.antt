@@ -39,3 +39,9 @@ counts_text undecided spent = codes " undecided " ++ (decimal undecided ++ (code
 
 abbrev pub open_text : Reason → ℕ → ℕ → ℕ → List ℕ
 open_text why level undecided spent = codes "open " ++ (reason_text why ++ (codes " level " ++ (decimal level ++ counts_text undecided spent)))
+
+abbrev pub valid_text : List ℕ
+valid_text = codes "valid\n"
+
+abbrev pub invalid_text : ℕ → ℕ → List ℕ
+invalid_text line code = codes "invalid line " ++ (decimal line ++ (codes " code " ++ (decimal code ++ codes "\n")))

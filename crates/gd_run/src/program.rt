@@ -1,73 +1,31 @@
 // The one call that the program makes.
-ghost use Rattle.std.specs.Prelude.{ℕ, ◌≡◌, ◌≢◌, ◌++◌, ◌≤◌, List, true, false, IfOk, IsOkAnd, IsSomeAnd, length, map, take, ◌<◌};
+ghost use Rattle.std.specs.Prelude.{ℕ, ◌≡◌, ◌≢◌, ◌++◌, ◌≤◌, ◌⊎◌, true, None, IsErrOf, IsSomeAnd, OnOk, length, map, take};
 ghost use Rattle.std.specs.String.{string_bytes};
 ghost use Rattle.gd_base.specs.Causes.{Rose};
-ghost use Rattle.gd_points.specs.Points.{points};
-ghost use Rattle.gd_run.specs.Answer.{EndsInAccept, EndsInFront, EndsInPut, EndsInReject, EndsSaid, EndsUnread, EndsWithAnswer, FailsToLoad, IsSaidOfBytes, IsSaidOfTable};
-ghost use Rattle.gd_run.specs.Commands.{flat_of};
-ghost use Rattle.gd_run.specs.Lines.{said_in};
+ghost use Rattle.gd_run.specs.Claims.{IsInvalid, IsReject, StoresValid};
+ghost use Rattle.gd_run.specs.Endings.{EndsInPut, EndsInStore, EndsInWant, EndsInZero, EndsWithAnswer, FailedToLoad, FailedToStore, IsUnread, Prints, StoresDone};
+ghost use Rattle.gd_run.specs.Lines.{stores_in};
+ghost use Rattle.gd_run.specs.Reports.{HasReport, IsPlainStatus, IsUnreadAnd, OnReport};
 ghost use Rattle.gd_run.specs.Texts.{cannot_read_text, wrong_words_text};
 ghost use Rattle.gd_run.specs.Words.{IsNoCommand};
-ghost use Rattle.gd_world.specs.Shelf.{IsWord, SameFiles};
+ghost use Rattle.gd_world.specs.Shelf.{IsWord, PutsPart, SameFiles};
 
-use crate::command::FlatCommand;
-use crate::texts::{
-    Line, cannot_read_line, input_line, outcome_line, too_long_line, wrong_words_line,
-};
-use crate::words::command_of;
-use gd_base::{Memory, ReadFault, Status};
-use gd_form::flat_task;
-use gd_points::{PointTable, read_points};
-use gd_search::search;
-use gd_world::{LoadFault, PutFault, Shelf, Sink};
+use crate::answering::answer_to;
+use crate::report::{NamedFile, Report, Stop};
+use crate::texts::{Line, cannot_read_line};
+use gd_base::Status;
+use gd_world::{PutFault, Shelf, Sink, StoreFault};
 use std::alloc::{AllocError, Global};
 use std::thread::Threads;
 
-// What is said of the points of a file.
-fn judge_table<R: Threads + Sync>(
-    rt: &R,
-    alloc: Global,
-    flat: &FlatCommand<'_>,
-    table: &PointTable,
-) -> Result<Line, AllocError>
-    requires { 0 < length table.now.rows }
-    ensures { IfOk result (λ line. IsSaidOfTable (flat_of flat.now) (Ok table.now) (said_in line)) }
+// Puts a line and ends with its status, or with that of the fault.
+fn put_line<O: Sink>(alloc: Global, line: &Line, out: &mut O) -> Status
+    ensures said { O.tells ≡ true → result.0 ≢ 6 → result.0 ≢ 7 → O.written out.new ≡ O.written out.old ++ string_bytes line.now.text }
+    ensures status { result.0 ≢ 6 → result.0 ≢ 7 → result.0 ≡ line.now.status }
+    ensures six { line.now.status ≢ 6 → result.0 ≡ 6 → Rose (O.faults out.old) (O.faults out.new) }
+    ensures part { O.tells ≡ true → line.now.status ≢ 6 → result.0 ≡ 6 → (n : ℕ) × (O.written out.new ≡ O.written out.old ++ take n (string_bytes line.now.text)) }
+    ensures seven { O.tells ≡ true → line.now.status ≢ 7 → result.0 ≡ 7 → O.written out.new ≡ O.written out.old }
 {
-    match search(rt, alloc, &flat_task(table, flat.tolerance), flat.budget) {
-        Ok(outcome) => outcome_line(alloc, &outcome),
-        Err(Memory) => Err(AllocError),
-    }
-}
-
-// What is said of the bytes of a points file.
-fn judge_flat<R: Threads + Sync>(
-    rt: &R,
-    alloc: Global,
-    flat: &FlatCommand<'_>,
-    bytes: &[u8],
-) -> Result<Line, AllocError>
-    ensures { IfOk result (λ line. IsSaidOfTable (flat_of flat.now) (points bytes.now) (said_in line)) }
-{
-    match read_points(alloc, bytes) {
-        Ok(table) => judge_table(rt, alloc, flat, &table),
-        Err(ReadFault::Input(fault)) => input_line(alloc, flat.points, fault),
-        Err(ReadFault::Memory) => Err(AllocError),
-    }
-}
-
-// Puts a line, where memory sufficed to make it, and ends with its status, or with that of the fault.
-fn say<O: Sink>(alloc: Global, out: &mut O, line: Result<Line, AllocError>) -> Status
-    requires { IfOk line (λ line. line.status ≤ 5) }
-    ensures said { O.tells ≡ true → result.0 ≢ 6 → result.0 ≢ 7 → IsOkAnd line (λ line. (O.written out.new ≡ O.written out.old ++ string_bytes line.text)) }
-    ensures status { result.0 ≢ 6 → result.0 ≢ 7 → IsOkAnd line (λ line. result.0 ≡ line.status) }
-    ensures six { result.0 ≡ 6 → Rose (O.faults out.old) (O.faults out.new) }
-    ensures part { O.tells ≡ true → result.0 ≡ 6 → IsOkAnd line (λ line. (n : ℕ) × (O.written out.new ≡ O.written out.old ++ take n (string_bytes line.text))) }
-    ensures seven { O.tells ≡ true → result.0 ≡ 7 → O.written out.new ≡ O.written out.old }
-    ensures range { result.0 ≤ 7 }
-{
-    let Ok(line) = line else {
-        return Status(7);
-    };
     match out.put(alloc, line.text.as_bytes()) {
         Ok(()) => Status(line.status),
         Err(PutFault::Failed) => Status(6),
@@ -75,32 +33,82 @@ fn say<O: Sink>(alloc: Global, out: &mut O, line: Result<Line, AllocError>) -> S
     }
 }
 
-// Does the command `flat`.
-fn run_flat<R: Threads + Sync, S: Shelf, O: Sink>(
-    rt: &R,
+// Stores a file, where there is one.
+fn store_file<S: Shelf>(
     alloc: Global,
-    flat: &FlatCommand<'_>,
+    file: &Option<NamedFile<'_>>,
+    shelf: &mut S,
+) -> Result<(), StoreFault>
+    ensures done { S.tells ≡ true → OnOk result (StoresDone (stores_in file.now) (S.holds shelf.old) (S.holds shelf.new)) }
+    ensures part { S.tells ≡ true → IsErrOf result StoreFault.Failed → IsSomeAnd file.now (λ f. PutsPart (S.holds shelf.old) (S.holds shelf.new) f.name.now f.bytes.items) }
+    ensures memory { IsErrOf result StoreFault.Memory → SameFiles (S.holds shelf.old) (S.holds shelf.new) }
+    ensures rose { IsErrOf result StoreFault.Failed → Rose (S.faults shelf.old) (S.faults shelf.new) }
+    ensures word { IsErrOf result StoreFault.Failed → IsSomeAnd file.now (λ f. IsWord (S.failed shelf.new) f.name.now true) }
+    ensures none { file.now ≡ None → shelf.new ≡ shelf.old }
+    ensures kept { file.now ≡ None → OnOk result (Unit {0}) × (IsErrOf result StoreFault.Failed → ⊥) }
+{
+    match file {
+        None => Ok(()),
+        Some(file) => shelf.store(alloc, file.name, file.bytes.as_slice()),
+    }
+}
+
+// Stores the file of a report, and then puts its line.
+fn finish<S: Shelf, O: Sink>(
+    alloc: Global,
+    report: &Report<'_>,
     shelf: &mut S,
     out: &mut O,
 ) -> Status
-    ensures answer { S.tells ≡ true → O.tells ≡ true → result.0 ≢ 5 → result.0 ≢ 6 → result.0 ≢ 7
-        → IsSomeAnd (S.holds shelf.old (flat_of flat.now).points) (λ bytes. EndsSaid (IsSaidOfBytes (flat_of flat.now) bytes) (O.written out.old) (O.written out.new) result.0) }
-    ensures five { result.0 ≡ 5 → Rose (S.faults shelf.old) (S.faults shelf.new) }
-    ensures word { result.0 ≡ 5 → IsWord (S.failed shelf.new) (flat_of flat.now).points false }
-    ensures unread { O.tells ≡ true → result.0 ≡ 5 → O.written out.new ≡ O.written out.old ++ cannot_read_text (flat_of flat.now).points }
-    ensures six { result.0 ≡ 6 → Rose (O.faults out.old) (O.faults out.new) }
-    ensures part { S.tells ≡ true → O.tells ≡ true → result.0 ≡ 6 → EndsInFront (flat_of flat.now) (S.holds shelf.old) (O.written out.old) (O.written out.new) }
+    requires { IsPlainStatus report.now.line.status }
+    ensures status { result.0 ≢ 6 → result.0 ≢ 7 → result.0 ≡ report.now.line.status }
+    ensures written { O.tells ≡ true → result.0 ≢ 6 → result.0 ≢ 7 → O.written out.new ≡ O.written out.old ++ string_bytes report.now.line.text }
+    ensures stored { S.tells ≡ true → result.0 ≢ 6 → result.0 ≢ 7 → StoresDone (stores_in report.now.file) (S.holds shelf.old) (S.holds shelf.new) }
+    ensures six { result.0 ≡ 6 → (Rose (S.faults shelf.old) (S.faults shelf.new) × IsSomeAnd report.now.file (λ f. IsWord (S.failed shelf.new) f.name.now true)) ⊎ Rose (O.faults out.old) (O.faults out.new) }
+    ensures fault { S.tells ≡ true → O.tells ≡ true → result.0 ≡ 6
+        → (IsSomeAnd report.now.file (λ f. PutsPart (S.holds shelf.old) (S.holds shelf.new) f.name.now f.bytes.items) × (O.written out.new ≡ O.written out.old))
+        ⊎ (StoresDone (stores_in report.now.file) (S.holds shelf.old) (S.holds shelf.new) × ((n : ℕ) × (O.written out.new ≡ O.written out.old ++ take n (string_bytes report.now.line.text)))) }
     ensures seven { O.tells ≡ true → result.0 ≡ 7 → O.written out.new ≡ O.written out.old }
-    ensures same { SameFiles (S.holds shelf.old) (S.holds shelf.new) }
-    ensures not_four { result.0 ≢ 4 }
-    ensures range { result.0 ≤ 7 }
+    ensures want { S.tells ≡ true → result.0 ≡ 7 → SameFiles (S.holds shelf.old) (S.holds shelf.new) ⊎ StoresDone (stores_in report.now.file) (S.holds shelf.old) (S.holds shelf.new) }
+    ensures none { report.now.file ≡ None → SameFiles (S.holds shelf.old) (S.holds shelf.new) }
 {
-    let mut bytes = Vec::new(alloc);
-    match shelf.load(alloc, flat.points, &mut bytes) {
-        Ok(()) => say(alloc, out, judge_flat(rt, alloc, flat, bytes.as_slice())),
-        Err(LoadFault::Failed) => say(alloc, out, cannot_read_line(alloc, flat.points)),
-        Err(LoadFault::TooLong) => say(alloc, out, too_long_line(alloc, flat.points)),
-        Err(LoadFault::Memory) => Status(7),
+    match store_file(alloc, &report.file, shelf) {
+        Ok(()) => put_line(alloc, &report.line, out),
+        Err(StoreFault::Failed) => Status(6),
+        Err(StoreFault::Memory) => Status(7),
+    }
+}
+
+// Ends a run with what it has to store and to say, or with why it has not.
+fn end<S: Shelf, O: Sink>(
+    alloc: Global,
+    answer: Result<Report<'_>, Stop<'_>>,
+    shelf: &mut S,
+    out: &mut O,
+) -> Status
+    requires { OnReport (λ r. IsPlainStatus r.line.status) (λ w. Unit {0}) answer }
+    ensures status { result.0 ≢ 5 → result.0 ≢ 6 → result.0 ≢ 7 → HasReport (λ r. result.0 ≡ r.line.status) answer.entry }
+    ensures written { O.tells ≡ true → result.0 ≢ 5 → result.0 ≢ 6 → result.0 ≢ 7 → HasReport (λ r. O.written out.new ≡ O.written out.old ++ string_bytes r.line.text) answer.entry }
+    ensures stored { S.tells ≡ true → result.0 ≢ 5 → result.0 ≢ 6 → result.0 ≢ 7 → HasReport (λ r. StoresDone (stores_in r.file) (S.holds shelf.old) (S.holds shelf.new)) answer.entry }
+    ensures five { result.0 ≡ 5 → IsUnreadAnd (λ w. Unit {0}) answer.entry }
+    ensures unread { O.tells ≡ true → result.0 ≡ 5 → IsUnreadAnd (λ w. O.written out.new ≡ O.written out.old ++ cannot_read_text w) answer.entry }
+    ensures untouched { IsUnreadAnd (λ w. Unit {0}) answer.entry → shelf.new ≡ shelf.old }
+    ensures six { result.0 ≡ 6 → (Rose (S.faults shelf.old) (S.faults shelf.new) × HasReport (λ r. IsSomeAnd r.file (λ f. IsWord (S.failed shelf.new) f.name.now true)) answer.entry) ⊎ Rose (O.faults out.old) (O.faults out.new) }
+    ensures fault { S.tells ≡ true → O.tells ≡ true → result.0 ≡ 6
+        → (HasReport (λ r. IsSomeAnd r.file (λ f. PutsPart (S.holds shelf.old) (S.holds shelf.new) f.name.now f.bytes.items)) answer.entry × (O.written out.new ≡ O.written out.old))
+        ⊎ (HasReport (λ r. StoresDone (stores_in r.file) (S.holds shelf.old) (S.holds shelf.new) × ((n : ℕ) × (O.written out.new ≡ O.written out.old ++ take n (string_bytes r.line.text)))) answer.entry
+        ⊎ IsUnreadAnd (λ w. (n : ℕ) × (O.written out.new ≡ O.written out.old ++ take n (cannot_read_text w))) answer.entry) }
+    ensures seven { O.tells ≡ true → result.0 ≡ 7 → O.written out.new ≡ O.written out.old }
+    ensures want { S.tells ≡ true → result.0 ≡ 7 → SameFiles (S.holds shelf.old) (S.holds shelf.new) ⊎ HasReport (λ r. StoresDone (stores_in r.file) (S.holds shelf.old) (S.holds shelf.new)) answer.entry }
+    ensures none { OnReport (λ r. r.file ≡ None) (λ w. Unit {0}) answer.entry → SameFiles (S.holds shelf.old) (S.holds shelf.new) }
+{
+    match answer {
+        Ok(report) => finish(alloc, &report, shelf, out),
+        Err(Stop::Unread(word)) => match cannot_read_line(alloc, word) {
+            Ok(line) => put_line(alloc, &line, out),
+            Err(AllocError) => Status(7),
+        },
+        Err(Stop::Memory) => Status(7),
     }
 }
 
@@ -114,39 +122,54 @@ pub fn run<R: Threads + Sync, S: Shelf, O: Sink>(
     shelf: &mut S,
     out: &mut O,
 ) -> Status
-    // A run in which no load and no put failed ends with its answer, but for want of memory.
+    // A run in which no load, no store and no put failed ends with its answer, but for want of memory.
     ensures answer { S.tells ≡ true → O.tells ≡ true → result.0 ≢ 5 → result.0 ≢ 6 → result.0 ≢ 7
-        → EndsWithAnswer (map string_bytes words.now.items) (S.holds shelf.old) (O.written out.old) (O.written out.new) result.0 }
+        → EndsWithAnswer (map string_bytes words.now.items) (S.holds shelf.old) (S.holds shelf.new) (O.written out.old) (O.written out.new) result.0 }
 
-    // A printed accept has its direction, across which all points lie in a zone as wide as the tolerance.
-    ensures accept { S.tells ≡ true → O.tells ≡ true → result.0 ≡ 0
-        → EndsInAccept (map string_bytes words.now.items) (S.holds shelf.old) (O.written out.old) (O.written out.new) }
+    // With 0 it printed an accept, with a direction across which all points lie in a zone as wide as the tolerance, or `valid`
+    // for a certificate that is right.
+    ensures zero { S.tells ≡ true → O.tells ≡ true → result.0 ≡ 0
+        → EndsInZero (map string_bytes words.now.items) (S.holds shelf.old) (O.written out.old) (O.written out.new) }
 
-    // A printed reject means that all points lie in a zone as wide as the tolerance across no direction.
+    // With 1 it printed a reject: all points lie in a zone as wide as the tolerance across no direction.
     ensures reject { S.tells ≡ true → O.tells ≡ true → result.0 ≡ 1
-        → EndsInReject (map string_bytes words.now.items) (S.holds shelf.old) (O.written out.old) (O.written out.new) }
+        → Prints (IsReject (map string_bytes words.now.items) (S.holds shelf.old)) (O.written out.old) (O.written out.new) }
+
+    // With 8 it printed the first wrong line of a certificate, which isn't right.
+    ensures invalid { S.tells ≡ true → O.tells ≡ true → result.0 ≡ 8
+        → Prints (IsInvalid (map string_bytes words.now.items) (S.holds shelf.old)) (O.written out.old) (O.written out.new) }
+
+    // What a verdict stored as its certificate is valid for the points as they were read.
+    ensures stored { S.tells ≡ true → O.tells ≡ true → result.0 ≤ 2
+        → StoresValid (map string_bytes words.now.items) (S.holds shelf.old) (S.holds shelf.new) }
 
     // Status 4 comes exactly where the words are of no command and the put was done.
     ensures four { result.0 ≡ 4 → IsNoCommand (map string_bytes words.now.items) }
     ensures wrong_words { IsNoCommand (map string_bytes words.now.items) → result.0 ≢ 6 → result.0 ≢ 7 → result.0 ≡ 4 }
     ensures wrong_text { O.tells ≡ true → result.0 ≡ 4 → O.written out.new ≡ O.written out.old ++ wrong_words_text }
 
-    // Status 5 comes only where a load of this run failed: that of the points file, which is the word printed.
+    // Status 5 comes only where a load of this run failed: that of the file whose turn it was, which is the word printed.
     ensures five { result.0 ≡ 5 → Rose (S.faults shelf.old) (S.faults shelf.new) }
-    ensures word { result.0 ≡ 5 → FailsToLoad (map string_bytes words.now.items) (S.failed shelf.new) }
-    ensures unread { O.tells ≡ true → result.0 ≡ 5 → EndsUnread (map string_bytes words.now.items) (O.written out.old) (O.written out.new) }
+    ensures word { result.0 ≡ 5 → FailedToLoad (map string_bytes words.now.items) (S.failed shelf.new) }
+    ensures unread { S.tells ≡ true → O.tells ≡ true → result.0 ≡ 5
+        → Prints (IsUnread (map string_bytes words.now.items) (S.holds shelf.old) (S.failed shelf.new)) (O.written out.old) (O.written out.new) }
 
-    // Status 6 comes only where the put failed. A front of the text may then stand in the sink.
-    ensures six { result.0 ≡ 6 → Rose (O.faults out.old) (O.faults out.new) }
-    ensures part { S.tells ≡ true → O.tells ≡ true → result.0 ≡ 6 → EndsInPut (map string_bytes words.now.items) (S.holds shelf.old) (O.written out.old) (O.written out.new) }
+    // Status 6 comes only where the store of a certificate failed, or the put. What was done before stands, and a front of the
+    // bytes or of the text may.
+    ensures six { result.0 ≡ 6 → (Rose (S.faults shelf.old) (S.faults shelf.new) × FailedToStore (map string_bytes words.now.items) (S.failed shelf.new)) ⊎ Rose (O.faults out.old) (O.faults out.new) }
+    ensures fault { S.tells ≡ true → O.tells ≡ true → result.0 ≡ 6
+        → EndsInStore (map string_bytes words.now.items) (S.holds shelf.old) (S.holds shelf.new) (O.written out.old) (O.written out.new)
+        ⊎ EndsInPut (map string_bytes words.now.items) (S.holds shelf.old) (S.holds shelf.new) (S.failed shelf.new) (O.written out.old) (O.written out.new) }
 
-    // Want of memory puts nothing. No file is ever changed.
+    // Want of memory puts nothing, and the stores that were done are the first ones of the answer.
     ensures seven { O.tells ≡ true → result.0 ≡ 7 → O.written out.new ≡ O.written out.old }
-    ensures same { SameFiles (S.holds shelf.old) (S.holds shelf.new) }
-    ensures range { result.0 ≤ 7 }
+    ensures want { S.tells ≡ true → result.0 ≡ 7
+        → SameFiles (S.holds shelf.old) (S.holds shelf.new) ⊎ EndsInWant (map string_bytes words.now.items) (S.holds shelf.old) (S.holds shelf.new) }
+
+    // No other status changes a file.
+    ensures same { result.0 ≢ 0 → result.0 ≢ 1 → result.0 ≢ 2 → result.0 ≢ 6 → result.0 ≢ 7 → SameFiles (S.holds shelf.old) (S.holds shelf.new) }
+    ensures range { result.0 ≤ 8 }
 {
-    match command_of(words.as_slice()) {
-        None => say(alloc, out, wrong_words_line(alloc)),
-        Some(flat) => run_flat(rt, alloc, &flat, shelf, out),
-    }
+    let answer = answer_to(rt, alloc, words.as_slice(), shelf);
+    end(alloc, answer, shelf, out)
 }

@@ -1,11 +1,12 @@
 // The one line that a run prints, and the status that goes with it.
 ghost use Rattle.std.specs.Prelude.{◌≡◌, true, IfOk};
 ghost use Rattle.std.specs.String.{string_bytes};
-ghost use Rattle.gd_run.specs.Answer.{refusal, said_of, too_long};
+ghost use Rattle.gd_run.specs.Answers.{invalid, refusal, said_of, too_long, valid};
+ghost use Rattle.gd_cert.specs.Reading.{fault};
 ghost use Rattle.gd_form.specs.FlatTask.{direction_at, is_in_range};
 ghost use Rattle.gd_run.specs.Lines.{said_in};
 ghost use Rattle.gd_run.specs.Outcomes.{IsPrintable};
-ghost use Rattle.gd_run.specs.Texts.{accept_text, cannot_read_text, counts_text, direction_text, input_text, open_text, place_text, reason_text, reject_text, wrong_words_text};
+ghost use Rattle.gd_run.specs.Texts.{accept_text, cannot_read_text, counts_text, direction_text, input_text, invalid_text, open_text, place_text, reason_text, reject_text, valid_text, wrong_words_text};
 ghost use Rattle.gd_search.specs.Outcomes.{end_of};
 
 use gd_base::{InputFault, Reason};
@@ -64,6 +65,22 @@ pub fn too_long_line(alloc: Global, word: &str) -> Result<Line, AllocError>
         column: 0,
     };
     input_line(alloc, word, fault)
+}
+
+/// A certificate is valid.
+pub fn valid_line(alloc: Global) -> Result<Line, AllocError>
+    ensures { IfOk result (λ line. said_in line ≡ valid) }
+{
+    let text = String::from_str(alloc, "valid\n")?;
+    Ok(Line { text, status: 0 })
+}
+
+/// A certificate is wrong at a line, from 1.
+pub fn invalid_line(alloc: Global, line: u32, code: u32) -> Result<Line, AllocError>
+    ensures { IfOk result (λ it. said_in it ≡ invalid (fault line code)) }
+{
+    let text = format!(in alloc; "invalid line {line} code {code}\n")?;
+    Ok(Line { text, status: 8 })
 }
 
 fn direction_words(alloc: Global, n: &V3) -> Result<String, AllocError>

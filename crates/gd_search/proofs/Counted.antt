@@ -19,34 +19,34 @@ abbrev pub total : (ℕ → ℕ) → ℕ → ℕ
 total f zero = 0
 total f (suc n) = total f n + f n
 
-total-first : (f : ℕ → ℕ) (n : ℕ) → total f (suc n) ≡ f 0 + total (λ j. f (suc j)) n
+pub total-first : (f : ℕ → ℕ) (n : ℕ) → total f (suc n) ≡ f 0 + total (λ j. f (suc j)) n
 total-first f zero = omega arith
 total-first f (suc n) = omega (arith, total-first f n)
 
-total-same : (f g : ℕ → ℕ) (n : ℕ) → ((j : ℕ) → j < n → f j ≡ g j) → total f n ≡ total g n
+pub total-same : (f g : ℕ → ℕ) (n : ℕ) → ((j : ℕ) → j < n → f j ≡ g j) → total f n ≡ total g n
 total-same f g zero e = refl
 total-same f g (suc n) e = omega (arith, total-same f g n (λ j h. e j (omega arith)), e n (omega arith))
 
-total-add : (f g : ℕ → ℕ) (n : ℕ) → total (λ j. f j + g j) n ≡ total f n + total g n
+pub total-add : (f g : ℕ → ℕ) (n : ℕ) → total (λ j. f j + g j) n ≡ total f n + total g n
 total-add f g zero = refl
 total-add f g (suc n) = omega (arith, total-add f g n)
 
-total-none : (n : ℕ) → total (λ j. 0) n ≡ 0
+pub total-none : (n : ℕ) → total (λ j. 0) n ≡ 0
 total-none zero = refl
 total-none (suc n) = omega (arith, total-none n)
 
 -- ---- a cell
-left_in : Questions → List Cell → ℕ
+unfoldable pub left_in : Questions → List Cell → ℕ
 left_in q cs = length (filter (is_left q) cs)
 
-left_in-append : (q : Questions) (cs ds : List Cell) → left_in q (cs ++ ds) ≡ left_in q cs + left_in q ds
+pub left_in-append : (q : Questions) (cs ds : List Cell) → left_in q (cs ++ ds) ≡ left_in q cs + left_in q ds
 unfolding left_in
 left_in-append q cs ds = ap length (filter-append (is_left q) cs ds) ∙ length-append (filter (is_left q) cs) (filter (is_left q) ds)
 
-leaves-append : (xs ys : List Node) → leaves_of (xs ++ ys) ≡ leaves_of xs + leaves_of ys
+pub leaves-append : (xs ys : List Node) → leaves_of (xs ++ ys) ≡ leaves_of xs + leaves_of ys
 leaves-append xs ys = ap length (filter-append is_refuted xs ys) ∙ length-append (filter is_refuted xs) (filter is_refuted ys)
 
-left_below : Questions → ℕ → ℕ → ℕ → ℕ → ℕ
+unfoldable pub left_below : Questions → ℕ → ℕ → ℕ → ℕ → ℕ
 left_below q r l p j = left_in q (cells_below q j r l p)
 
 counted_below : (q : Questions) (depth r l p : ℕ) → leaves_of (tree_below q depth r l p) + left_below q r l p depth ≡ total (left_below q r l p) depth + 1
@@ -75,12 +75,12 @@ counted_below q (suc depth) r l p =
     ] in
     omega (arith, f, b)
 
-none_left : (q : Questions) → left_in q [] ≡ 0
+pub none_left : (q : Questions) → left_in q [] ≡ 0
 unfolding left_in
 none_left q = refl
 
 -- ---- all roots
-left_under : Questions → ℕ → ℕ → ℕ → ℕ
+unfoldable pub left_under : Questions → ℕ → ℕ → ℕ → ℕ
 left_under q a n j = left_in q (flat_map (λ r. cells_below q j r 0 0) (count_from a n))
 
 counted_roots : (q : Questions) (level a n : ℕ) → leaves_of (flat_map (λ r. tree_below q level r 0 0) (count_from a n)) + left_under q a n level ≡ total (left_under q a n) level + n
@@ -99,11 +99,11 @@ counted_roots q level a (suc n) =
     )
 
 -- ---- the undecided cells
-undecided_under : (q : Questions) → IsGrid q → (j : ℕ) → j ≤ q.finest → length (undecided q j) ≡ left_under q 1 q.roots j
+pub undecided_under : (q : Questions) → IsGrid q → (j : ℕ) → j ≤ q.finest → length (undecided q j) ≡ left_under q 1 q.roots j
 unfolding left_under left_in
 undecided_under q grid j low = undecided_counted q grid j low ∙ ap (λ cs. length (filter (is_left q) cs)) (candidates_by_roots q grid j low)
 
-spent_under : (q : Questions) → IsGrid q → (l : ℕ) → l ≤ suc q.finest → spent q l ≡ total (left_under q 1 q.roots) l
+pub spent_under : (q : Questions) → IsGrid q → (l : ℕ) → l ≤ suc q.finest → spent q l ≡ total (left_under q 1 q.roots) l
 spent_under q grid zero low = refl
 spent_under q grid (suc l) low = omega (arith, spent_under q grid l (omega arith), undecided_under q grid l (omega arith))
 

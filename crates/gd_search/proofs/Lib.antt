@@ -1,7 +1,7 @@
-mod Counted
-mod Forest
+pub mod Counted
+pub mod Forest
 mod KnownValues
-mod Levels
+pub mod Levels
 pub mod Meant
 mod Steps
 mod Writing

@@ -4,7 +4,7 @@ use Rattle.std.proofs.lemmas.Bool.{cases_lt}
 use Rattle.std.proofs.lemmas.Bool.Decides.{nat_tests}
 use Rattle.std.proofs.lemmas.List.{length-append}
 use Rattle.std.proofs.lemmas.List.Elements.{All-filter, All-map, filter-append}
-use Rattle.std.specs.List.{All, flat_map}
+use Rattle.std.specs.List.{flat_map}
 use Rattle.gd_base.specs.declared.verdict.Reason.TheVariants as reason
 use Rattle.gd_cells.specs.Grid.{count_from}
 use Rattle.gd_cells.specs.Laws.{CentreInRange, CentreNamesPlace, FirstRefutes, HalvesCover, HasRoot, HoldsIsFeasible, IsGrid, NamesPlace, RefutedIsEmpty, RootsCover}
@@ -19,11 +19,11 @@ use Rattle.gd_search.specs.declared.outcome.Outcome.{Outcome}
 use Rattle.gd_search.specs.declared.outcome.Outcome.TheVariants.{Accept, Reject, StillOpen}
 
 -- ---- the search ends at the last level at the latest
-floor_ends : (h : Option Witness) (lines : List Node) (u s roots finest budget : ℕ) → end_with h lines finest u s roots finest budget ≡ None → ⊥
+pub floor_ends : (h : Option Witness) (lines : List Node) (u s roots finest budget : ℕ) → end_with h lines finest u s roots finest budget ≡ None → ⊥
 floor_ends (Some w) lines u s roots finest budget e = cc
 floor_ends None lines u s roots finest budget e = grind (arith, nat_tests)
 
-low_level : (q : Questions) (budget l : ℕ) → ((m : ℕ) → m < l → end_at q budget m ≡ None) → l ≤ q.finest
+pub low_level : (q : Questions) (budget l : ℕ) → ((m : ℕ) → m < l → end_at q budget m ≡ None) → l ≤ q.finest
 unfolding end_at
 low_level q budget l before = elim (cases_lt q.finest l) [
   | inl above ↦ absurd (floor_ends (find q.holds (centres q q.finest)) _ _ _ _ q.finest budget (before q.finest above))
@@ -31,7 +31,7 @@ low_level q budget l before = elim (cases_lt q.finest l) [
 ]
 
 -- ---- an accepted witness
-accepted_is : (h : Option Witness) (lines : List Node) (l u s roots finest budget : ℕ) (w : Witness) (level : ℕ) → end_with h lines l u s roots finest budget ≡ Some (Accepted w level) → h ≡ Some w
+pub accepted_is : (h : Option Witness) (lines : List Node) (l u s roots finest budget : ℕ) (w : Witness) (level : ℕ) → end_with h lines l u s roots finest budget ≡ Some (Accepted w level) → h ≡ Some w
 accepted_is (Some v) lines l u s roots finest budget w level e = cc
 accepted_is None lines l u s roots finest budget w level e =
     elim (nat_eq u 0) as (λ a. cond a (Some (Rejected (s + roots) lines)) (cond (nat_eq l finest) (Some (Open lines l u s reason.Floor)) (cond (nat_lt budget (s + u)) (Some (Open lines l u s reason.Budget)) None)) ≡ Some (Accepted w level) → None ≡ Some w) [
@@ -69,11 +69,11 @@ not_refuted : (q : Questions) (feasible : List ℤ → Type 0) (inside : List �
 not_refuted q feasible inside refutes empty a can c cell lies =
     elim (q.first c) as (λ v. q.first c ≡ v → is_none v ≡ true) [ Some e ↦ λ is. absurd (empty c e a cell (refutes c e cell is) lies can) | None ↦ λ is. refl ] refl
 
-cell_at_path : (q : Questions) (r l p : ℕ) → 1 ≤ r → r ≤ q.roots → l ≤ q.finest → p < 2 ^ l → IsCell q (cell_of q r l p)
+pub cell_at_path : (q : Questions) (r l p : ℕ) → 1 ≤ r → r ≤ q.roots → l ≤ q.finest → p < 2 ^ l → IsCell q (cell_of q r l p)
 cell_at_path q r l p first last low within =
     record { root = r; level = l; path = p; first_root = first; last_root = last; deepest = low; inside = within; same = refl }
 
-both_true : (a b : Bool) → a ≡ true → b ≡ true → (a && b) ≡ true
+pub both_true : (a b : Bool) → a ≡ true → b ≡ true → (a && b) ≡ true
 both_true a b e f = rw (e, f) refl
 
 stays_root : (q : Questions) (feasible : List ℤ → Type 0) (inside : List ℤ → Cell → Type 0) → FirstRefutes q → RefutedIsEmpty q feasible inside → (a : List ℤ) → feasible a → HasRoot q inside a → Stays q inside a 0

@@ -1,4 +1,4 @@
--- The two tasks of the tests. Both have two roots and one coordinate.
+-- The two tasks of the tests. Both have two roots and one coordinate; a witness of the first has a second number.
 use Rattle.std.proofs.Common.{arith, ◌≡◌, ◌≤◌, ◌+◌, refl, subst, ◌^◌, ◌<◌, unsigned_abs, ℕ, zero, suc, Bool, true, false, ◌&&◌, ◌||◌, ◌==◌, if◌then◌else◌, cond, Some, None, nat_le, nat_eq, int_le, ℤ, pos, List, replicate, slice_set, slice_index_or, inl}
 use Rattle.std.proofs.lemmas.List.Elements.{All-cons, All-replicate}
 use Rattle.std.specs.List.{All}
@@ -26,7 +26,7 @@ abbrev pub toy : Bool → ℕ → ℤ → Questions
 toy shows depth least = record {
   roots = 2;
   dims = 1;
-  numbers = 1;
+  numbers = 2;
   finest = 3;
   steps = λ l. 0;
   first = λ c. cond shows None (cond (ends depth c) (Some (evidence_of c)) None);
@@ -42,13 +42,13 @@ feasible_of shows a = shows ≡ true
 abbrev pub inside_all : List ℤ → Cell → Type 0
 inside_all a c = Unit {0}
 
--- a task whose two roots are refuted at once
+-- a task whose two roots are refuted
 abbrev pub meeting : Questions
 meeting = record {
   roots = 2;
   dims = 1;
   numbers = 1;
-  finest = 0;
+  finest = 1;
   steps = λ l. 0;
   first = λ c. Some (evidence_of c);
   refuted = λ c e. true;
@@ -122,7 +122,7 @@ sizes_of : (c : Cell) → c.level ≤ 3 → All is_small (witness_of c).at
 sizes_of c few = All-cons is_small (pos c.level) (replicate 11 (pos 0)) (omega arith) (All-replicate is_small 11 (pos 0) (omega arith))
 
 pub toy-places : (shows : Bool) (depth : ℕ) (least : ℤ) → CentreNamesPlace (toy shows depth least)
-toy-places shows depth least c cell = record { first = first_root_of (toy shows depth least) c cell; last = last_root_of (toy shows depth least) c cell; sizes = sizes_of c (few_levels_of (toy shows depth least) c (omega arith) cell); behind = refl }
+toy-places shows depth least c cell = record { room = refl; first = first_root_of (toy shows depth least) c cell; last = last_root_of (toy shows depth least) c cell; sizes = sizes_of c (few_levels_of (toy shows depth least) c (omega arith) cell); behind = refl }
 
 pub toy-none : (shows : Bool) (depth : ℕ) (least : ℤ) → NoneRefutes (toy shows depth least)
 toy-none true depth least c e cell h = refl
@@ -142,7 +142,7 @@ meeting-short c e cell h =
     let same : evidence_of c ≡ e = cc in subst IsShort same (short_evidence c (few_roots_of meeting c (omega arith) cell))
 
 pub meeting-places : CentreNamesPlace meeting
-meeting-places c cell = record { first = first_root_of meeting c cell; last = last_root_of meeting c cell; sizes = sizes_of c (few_levels_of meeting c (omega arith) cell); behind = refl }
+meeting-places c cell = record { room = refl; first = first_root_of meeting c cell; last = last_root_of meeting c cell; sizes = sizes_of c (few_levels_of meeting c (omega arith) cell); behind = refl }
 
 pub meeting-grid : IsGrid meeting
 meeting-grid = record {
@@ -153,7 +153,7 @@ meeting-grid = record {
   few_numbers = omega arith;
   few_levels = omega arith;
   coordinates = λ l h. omega arith;
-  few_halvings = λ c. omega arith;
+  few_halvings = λ c. omega (arith, halvings-few c 1);
 }
 
 pub meeting-roots : RootsCover meeting never inside_all

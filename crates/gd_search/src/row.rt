@@ -9,7 +9,14 @@ ghost use Rattle.gd_search.specs.Rows.{fresh, is_open, judged, rows_below};
 use gd_base::Memory;
 use gd_cells::{Cell, Evidence, Task, root_cell, show_centre_in_range};
 use std::alloc::Global;
-use std::thread::{Threads, join_mut};
+use std::thread::{Threads, for_each_chunk_mut};
+
+/// A part of a level that gets a thread has so many looks of a cell at a point, 0.3 ms of work or more. A thread starts in some 0.02 ms
+/// where a processor is idle, and waits for its turn where all are busy.
+const PART: usize = 200_000;
+
+/// A level has at most so many parts: some for each processor, as one may be slower or have more to do.
+const MOST_PARTS: usize = 16;
 
 /// A cell, what refutes it first, and whether its centre holds. Where something refutes it, its centre isn't tried.
 #[derive(Clone, Copy)]
@@ -62,34 +69,42 @@ fn bound_rows<T: Task>(task: &T, rows: &mut [Row])
     }
 }
 
-// The same in two halves side by side, where a thread can be made. A single row isn't worth one.
-fn bound_halves<R: Threads + Sync, T: Task>(rt: &R, task: &T, rows: &mut [Row])
-    requires { All (λ row. IsCell (T.questions task.now) row.cell) rows.old }
+// How many parts a level of so many cells and points a cell is worth: each is long enough to pay for its thread.
+fn parts_of(cells: usize, points: usize) -> usize
+    ensures { 1 ≤ result }
+{
+    let looks = cells.saturating_mul(points);
+    (looks / PART).clamp(1, MOST_PARTS)
+}
+
+// The same in so many parts side by side, where threads can be made.
+fn bound_parts<R: Threads + Sync, T: Task>(rt: &R, task: &T, rows: &mut [Row], parts: usize)
+    requires cells { All (λ row. IsCell (T.questions task.now) row.cell) rows.old }
+    requires parts { 1 ≤ parts }
     ensures { rows.new ≡ map (judged (T.questions task.now)) rows.old }
 {
-    if rows.len() < 2 {
+    if parts == 1 || rows.is_empty() {
         bound_rows(task, rows);
         return;
     }
-    let middle = rows.len() / 2;
-    let (front, back) = rows.split_at_mut(middle);
-    join_mut(
+    let size = rows.len().div_ceil(parts);
+    for_each_chunk_mut(
         rt,
-        &mut || -> ()
-            requires { All (λ row. IsCell (T.questions task.now) row.cell) front.now }
-        { bound_rows(task, front) },
-        &mut || -> ()
-            requires { All (λ row. IsCell (T.questions task.now) row.cell) back.now }
-        { bound_rows(task, back) },
+        rows,
+        size,
+        &|_, part: &mut [Row]| -> ()
+            requires { All (λ row. IsCell (T.questions task.now) row.cell) part.now }
+        { bound_rows(task, part) },
     );
 }
 
-/// Bounds the cells of a level. It takes no memory. Two rows or more are bounded in two halves side by side.
+/// Bounds the cells of a level. It takes no memory. Where there is enough to do, parts of it are bounded side by side.
 pub fn bound_level<R: Threads + Sync, T: Task>(rt: &R, task: &T, rows: &mut Vec<Row>)
     requires { All (λ row. IsCell (T.questions task.now) row.cell) rows.old.items }
     ensures { rows.new.items ≡ map (judged (T.questions task.now)) rows.old.items }
 {
-    bound_halves(rt, task, rows.as_mut_slice());
+    let parts = parts_of(rows.len(), task.points());
+    bound_parts(rt, task, rows.as_mut_slice(), parts);
 }
 
 /// How many cells are undecided.

@@ -65,11 +65,15 @@ impl Task for Toy {
     }
 
     fn numbers(&self) -> u32 {
-        1
+        2
     }
 
     fn floor_level(&self) -> u32 {
         3
+    }
+
+    fn points(&self) -> usize {
+        1
     }
 
     fn split(&self, cell: &Cell) -> (Cell, Cell) {
@@ -150,11 +154,16 @@ impl Task for Meeting {
     }
 
     fn floor_level(&self) -> u32 {
-        0
+        1
+    }
+
+    // so many that two cells are worth threads
+    fn points(&self) -> usize {
+        1_000_000_000
     }
 
     fn split(&self, cell: &Cell) -> (Cell, Cell) {
-        (*cell, *cell)
+        split_cell(cell, 0)
     }
 
     fn refutes(&self, cell: &Cell) -> Option<Evidence> {

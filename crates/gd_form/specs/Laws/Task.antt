@@ -119,6 +119,7 @@ flat_centre_names_place rows tolerance c cell =
     let first : unsigned_abs (middle 0 c) ≤ 2 ^ 30 = middle_size 0 c f.first in
     let second : unsigned_abs (middle 1 c) ≤ 2 ^ 30 = middle_size 1 c f.second in
     record {
+      room = refl;
       first = f.first_root;
       last = f.last_root;
       sizes = All-cons is_small (middle 0 c) (middle 1 c ∷ replicate 10 (pos 0)) (omega (arith, first)) (All-cons is_small (middle 1 c) (replicate 10 (pos 0)) (omega (arith, second)) (All-replicate is_small 10 (pos 0) (omega arith)));

@@ -1,34 +1,55 @@
-use Rattle.std.proofs.Common.{◌≡◌, refl, arith, ◌<◌, length, take}
-use Rattle.std.proofs.lemmas.List.{length-map, take_all}
-use Rattle.gd_form.specs.Laws.Firsts.{greatest_inside, least_inside}
-use Rattle.gd_form.proofs.Steps.{first_high, first_low, high_step, low_step}
-use Rattle.gd_form.specs.FlatTests.{farthest, nearest, lows, highs}
+use Rattle.std.proofs.Common.{arith, ◌≡◌, ◌∙◌, ◌≤◌, ap, refl, subst, sym, length}
+use Rattle.gd_form.proofs.Blocks.{NoneBefore, later_greatest, later_least}
+use Rattle.gd_form.proofs.Sizes.{kept, kept-is}
+use Rattle.gd_form.proofs.Steps.{first_high, first_low}
+use Rattle.gd_form.specs.FlatTests.{highs, lows}
+use Rattle.gd_form.specs.declared.extremes.Extreme.{Extreme}
 use Rattle.gd_form.proofs.extremes.extremes_along.Goals as goal
 
-pub loop-at-init : goal.loop-at-init
-loop-at-init c =
-    rw (first_low c.args.b.now c.args.rows.now c.requires.some, first_high c.args.b.now c.args.rows.now c.requires.some)
-    (record { greatest_lo = refl; farthest = refl; least_hi = refl; nearest = refl; lo_size = omega arith; hi_size = omega arith })
+pub loop-from-init : goal.loop-from-init
+loop-from-init c =
+    let b = c.args.b.now in
+    let rows = c.args.points.now.rows.now in
+    record {
+      some = omega arith;
+      room = omega (arith, c.args.points.now.some);
+      lo = rw (first_low b rows c.args.points.now.some) refl;
+      hi = rw (first_high b rows c.args.points.now.some) refl;
+      farthest = λ k d h. absurd (omega (arith, h));
+      nearest = λ k d h. absurd (omega (arith, h));
+      lo_place = omega arith;
+      hi_place = omega arith;
+      lo_size = omega arith;
+      hi_size = omega arith;
+    }
 
-pub loop-at-preserved : goal.loop-at-preserved
-loop-at-preserved c =
-    let so = c.loop-at.invariant in
-    let f = low_step c.args.b.now c.args.rows.now c.loop-at.at _ c.loop-at.farthest c.greater-farthest.result c.span_of-span.result.lo c.loop-at-test.true c.loop-at.auto.at c.span_of-span.ensures.lo c.span_of-span.ensures.lo_size
-    (record { value = so.greatest_lo; place = so.farthest; size = so.lo_size }) c.greater-farthest.ensures in
-    let n = high_step c.args.b.now c.args.rows.now c.loop-at.at _ c.loop-at.nearest c.lesser-nearest.result c.span_of-span.result.hi c.loop-at-test.true c.loop-at.auto.at c.span_of-span.ensures.hi c.span_of-span.ensures.hi_size
-    (record { value = so.least_hi; place = so.nearest; size = so.hi_size }) c.lesser-nearest.ensures in
-    record { greatest_lo = f.value; farthest = f.place; least_hi = n.value; nearest = n.place; lo_size = f.size; hi_size = n.size }
-
-pub returns-clause-lo_place : goal.returns-clause-lo_place
-returns-clause-lo_place c =
-    let inside : farthest c.args.b.now c.args.rows.now < length c.args.rows.now = rw length-map at (greatest_inside (lows c.args.b.now c.args.rows.now) (rw length-map c.requires.some)) in
-    let all : take c.loop-at.at (lows c.args.b.now c.args.rows.now) ≡ lows c.args.b.now c.args.rows.now = take_all c.loop-at.at (lows c.args.b.now c.args.rows.now) (rw length-map c.loop-at-test.false) in
-    let is : c.loop-at.farthest.at ≡ farthest c.args.b.now c.args.rows.now = rw all at c.loop-at.invariant.farthest in
-    rw is inside
-
-pub returns-clause-hi_place : goal.returns-clause-hi_place
-returns-clause-hi_place c =
-    let inside : nearest c.args.b.now c.args.rows.now < length c.args.rows.now = rw length-map at (least_inside (highs c.args.b.now c.args.rows.now) (rw length-map c.requires.some)) in
-    let all : take c.loop-at.at (highs c.args.b.now c.args.rows.now) ≡ highs c.args.b.now c.args.rows.now = take_all c.loop-at.at (highs c.args.b.now c.args.rows.now) (rw length-map c.loop-at-test.false) in
-    let is : c.loop-at.nearest.at ≡ nearest c.args.b.now c.args.rows.now = rw all at c.loop-at.invariant.nearest in
-    rw is inside
+pub loop-from-preserved : goal.loop-from-preserved
+loop-from-preserved c =
+    let xs = lows c.args.b.now c.args.points.now.rows.now in
+    let ys = highs c.args.b.now c.args.points.now.rows.now in
+    let so = c.loop-from.invariant in
+    let ends = c.ends_to-ends.ensures in
+    let lo = c.ends_to-ends.result.lo in
+    let hi = c.ends_to-ends.result.hi in
+    let kl : kept lo ≡ lo = kept-is lo (omega (arith, ends.lo_size)) in
+    let kh : kept hi ≡ hi = kept-is hi (omega (arith, ends.hi_size)) in
+    let kf : kept c.loop-from.farthest.value ≡ c.loop-from.farthest.value = kept-is c.loop-from.farthest.value (omega (arith, so.lo_size)) in
+    let kn : kept c.loop-from.nearest.value ≡ c.loop-from.nearest.value = kept-is c.loop-from.nearest.value (omega (arith, so.hi_size)) in
+    let f = later_greatest xs c.loop-from.farthest (kept lo) c.loop-from.from (length c.args.points.now.rows.now) so.room so.lo_place so.lo so.farthest (rw kl (rw kf at ends.lo_more)) in
+    let n = later_least ys c.loop-from.nearest (kept hi) c.loop-from.from (length c.args.points.now.rows.now) so.room so.hi_place so.hi so.nearest (rw kh (rw kn at ends.hi_less)) in
+    let ef = c.greater-farthest.ensures in
+    let en = c.lesser-nearest.ensures in
+    let vf : c.greater-farthest.result.value ≡ lo = ap (λ (r : Extreme). r.value) ef ∙ f.value ∙ kl in
+    let vn : c.lesser-nearest.result.value ≡ hi = ap (λ (r : Extreme). r.value) en ∙ n.value ∙ kh in
+    record {
+      some = omega (arith, so.some, c.block_end-to.ensures.more);
+      room = c.block_end-to.ensures.most;
+      lo = vf ∙ ends.lo;
+      hi = vn ∙ ends.hi;
+      farthest = subst (λ (r : Extreme). NoneBefore r.value r.from xs) (sym ef) f.none;
+      nearest = subst (λ (r : Extreme). NoneBefore r.value r.from ys) (sym en) n.none;
+      lo_place = subst (λ (r : Extreme). r.from ≤ length c.args.points.now.rows.now) (sym ef) f.place;
+      hi_place = subst (λ (r : Extreme). r.from ≤ length c.args.points.now.rows.now) (sym en) n.place;
+      lo_size = rw vf ends.lo_size;
+      hi_size = rw vn ends.hi_size;
+    }

@@ -1,13 +1,21 @@
-use Rattle.std.proofs.Common.{◌≡◌, ◌≤◌, ◌^◌, ◌*◌, take, unsigned_abs}
-use Rattle.gd_form.specs.FlatTests.{greatest, highs, least, lows, place_of}
+use Rattle.std.proofs.Common.{◌≡◌, ◌≤◌, ◌<◌, ◌-◌, ◌^◌, ◌*◌, length, take, unsigned_abs}
+use Rattle.gd_form.proofs.Blocks.{NoneBefore}
+use Rattle.gd_form.specs.FlatTests.{greatest, highs, least, lows}
 use Rattle.gd_form.proofs.extremes.extremes_along.Given as goal
 
-abbrev pub invariant-loop-at : goal.invariant-loop-at
-invariant-loop-at l = record {
-  greatest_lo : l.farthest.value ≡ greatest (take l.at (lows l.b l.rows));
-  farthest : l.farthest.at ≡ place_of (greatest (take l.at (lows l.b l.rows))) (take l.at (lows l.b l.rows));
-  least_hi : l.nearest.value ≡ least (take l.at (highs l.b l.rows));
-  nearest : l.nearest.at ≡ place_of (least (take l.at (highs l.b l.rows))) (take l.at (highs l.b l.rows));
+abbrev pub invariant-loop-from : goal.invariant-loop-from
+invariant-loop-from l = record {
+  some : 0 < l.from;
+  room : l.from ≤ length l.points.rows.now;
+  lo : l.farthest.value ≡ greatest (take l.from (lows l.b l.points.rows.now));
+  hi : l.nearest.value ≡ least (take l.from (highs l.b l.points.rows.now));
+  farthest : NoneBefore l.farthest.value l.farthest.from (lows l.b l.points.rows.now);
+  nearest : NoneBefore l.nearest.value l.nearest.from (highs l.b l.points.rows.now);
+  lo_place : l.farthest.from ≤ length l.points.rows.now;
+  hi_place : l.nearest.from ≤ length l.points.rows.now;
   lo_size : unsigned_abs l.farthest.value ≤ 3 * 2 ^ 54;
   hi_size : unsigned_abs l.nearest.value ≤ 3 * 2 ^ 54;
 }
+
+abbrev pub decreases-loop-from : goal.decreases-loop-from
+decreases-loop-from l = length l.points.rows.now - l.from

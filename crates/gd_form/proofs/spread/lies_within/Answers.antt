@@ -1,24 +1,16 @@
-use Rattle.std.proofs.Common.{rules, arith, ◌≡◌, ◌∙◌, ap, FitsSigned, unsigned_abs}
-use Rattle.std.proofs.lemmas.Int.{to_z-of_z}
-use Rattle.std.specs.Int.{w128}
-use Rattle.std.specs.Ordering.{is_le}
-use Rattle.gd_form.proofs.Sizes.{kept-is, norm2-size, tolerance-size}
+use Rattle.std.proofs.Common.{arith, ◌∙◌, ◌<◌, ◌≤◌, ◌-ℤ◌, ◌≤ℤ◌, length, pos, sym}
+use Rattle.std.proofs.lemmas.Int.{ints}
+use Rattle.gd_form.proofs.Blocks.{along_length, greatest_front, least_front}
+use Rattle.gd_form.proofs.Decisions.{further}
 use Rattle.gd_form.specs.FlatTests.{along, spread}
 use Rattle.gd_vec.specs.Vector.{norm2_of}
 use Rattle.gd_form.proofs.spread.lies_within.Goals as goal
 
-pub cmp_root-requires-clause-product : goal.cmp_root-requires-clause-product
-cmp_root-requires-clause-product c =
-    let t : FitsSigned w128 c.from-2.result = search rules in
-    let m : FitsSigned w128 c.norm2.result = search rules in
-    rw (to_z-of_z w128 c.from-2.result t, to_z-of_z w128 c.norm2.result m, c.from-2.ensures, c.norm2.ensures.value)
-    (tolerance-size c.args.tolerance (unsigned_abs (norm2_of c.args.n.now)) c.requires.tolerance (norm2-size c.args.n.now c.requires.direction))
-
-pub returns : goal.returns
-returns c =
-    let s : FitsSigned w128 c.from.result = search rules in
-    let t : FitsSigned w128 c.from-2.result = search rules in
-    let m : FitsSigned w128 c.norm2.result = search rules in
-    let e : c.from.result ≡ spread (along c.args.n.now c.args.rows.now) = c.from.ensures ∙ kept-is c.spread_along-spread.result (omega (arith, c.spread_along-spread.ensures.size)) ∙ c.spread_along-spread.ensures.value in
-    let v = rw (to_z-of_z w128 c.from.result s, to_z-of_z w128 c.from-2.result t, to_z-of_z w128 c.norm2.result m, e, c.from-2.ensures, c.norm2.ensures.value) at c.cmp_root.ensures.value in
-    c.is_le.ensures ∙ ap is_le v
+pub returns-then-not-is_narrow : goal.returns-then-not-is_narrow
+returns-then-not-is_narrow c =
+    let xs = along c.args.n.now c.args.points.now.rows.now in
+    let some : 0 < c.block_end-to.result = omega (arith, c.loop-from.invariant.some, c.block_end-to.ensures.more) in
+    let most : c.block_end-to.result ≤ length xs = omega (arith, c.block_end-to.ensures.most, along_length c.args.n.now c.args.points.now.rows.now) in
+    let front : (c.span_to-span.result.hi -ℤ c.span_to-span.result.lo) ≤ℤ spread xs =
+    omega (arith, ints, greatest_front xs c.block_end-to.result some most, least_front xs c.block_end-to.result some most, c.span_to-span.ensures.lo, c.span_to-span.ensures.hi) in
+    sym (further (c.span_to-span.result.hi -ℤ c.span_to-span.result.lo) (spread xs) (pos c.args.tolerance) (norm2_of c.args.n.now) front (sym c.is_narrow.ensures ∙ c.if-not-is_narrow.true))

@@ -1,0 +1,76 @@
+// The coordinates of points, axis by axis.
+ghost use Rattle.std.specs.Prelude.{◌≡◌, ◌≤◌, ◌<◌, ◌++◌, [], ◌∷◌, OnOk, vec_capacity, vec_len, unsigned_abs};
+ghost use Rattle.gd_vec.specs.Vector.{IsWithin};
+
+use gd_vec::V3;
+use std::alloc::{AllocError, Global};
+
+/// The coordinates of some points in order, axis by axis, in units of 0.1 micrometre: 12 bytes a point.
+#[derive(Clone, Copy)]
+pub struct Columns<'a> {
+    pub x: &'a [i32],
+    pub y: &'a [i32],
+    pub z: &'a [i32],
+}
+
+// The lists that columns borrow.
+#[derive(Drop)]
+pub struct ColumnLists {
+    pub x: Vec<i32>,
+    pub y: Vec<i32>,
+    pub z: Vec<i32>,
+}
+
+// A coordinate in 32 bits.
+#[inline]
+fn short(coordinate: i64) -> i32
+    requires { unsigned_abs coordinate ≤ 8000000 }
+    ensures { result ≡ coordinate }
+{
+    coordinate as i32
+}
+
+impl ColumnLists {
+    // No points.
+    pub fn new(alloc: Global) -> ColumnLists
+        ensures x { result.x.items ≡ [] }
+        ensures y { result.y.items ≡ [] }
+        ensures z { result.z.items ≡ [] }
+    {
+        ColumnLists {
+            x: Vec::new(alloc),
+            y: Vec::new(alloc),
+            z: Vec::new(alloc),
+        }
+    }
+
+    // Makes room for one more point.
+    pub fn reserve(&mut self) -> Result<(), AllocError>
+        ensures x { self.new.x.items ≡ self.old.x.items }
+        ensures y { self.new.y.items ≡ self.old.y.items }
+        ensures z { self.new.z.items ≡ self.old.z.items }
+        ensures x_room { OnOk result (vec_len self.new.x < vec_capacity self.new.x) }
+        ensures y_room { OnOk result (vec_len self.new.y < vec_capacity self.new.y) }
+        ensures z_room { OnOk result (vec_len self.new.z < vec_capacity self.new.z) }
+    {
+        self.x.reserve(1)?;
+        self.y.reserve(1)?;
+        self.z.reserve(1)?;
+        Ok(())
+    }
+
+    // Adds a point behind the others.
+    pub fn push_reserved(&mut self, at: &V3)
+        requires x_room { vec_len self.old.x < vec_capacity self.old.x }
+        requires y_room { vec_len self.old.y < vec_capacity self.old.y }
+        requires z_room { vec_len self.old.z < vec_capacity self.old.z }
+        requires within { IsWithin 8000000 at.now }
+        ensures x { self.new.x.items ≡ self.old.x.items ++ at.now.x ∷ [] }
+        ensures y { self.new.y.items ≡ self.old.y.items ++ at.now.y ∷ [] }
+        ensures z { self.new.z.items ≡ self.old.z.items ++ at.now.z ∷ [] }
+    {
+        self.x.push_reserved(short(at.x));
+        self.y.push_reserved(short(at.y));
+        self.z.push_reserved(short(at.z));
+    }
+}
