@@ -37,7 +37,7 @@ alike_at stage.Witness line d a b c e f (x ∷ xs) (y ∷ ys) many other some ot
     ap (λ r. and_then_read r (λ body. Ok (with_body body d))) (same_place a b (c ∷ e ∷ f ∷ x ∷ xs) (c ∷ e ∷ f ∷ y ∷ ys) many other)
 alike_at stage.Counts line d a b c e f (x ∷ xs) (y ∷ ys) many other some others = refl
 alike_at stage.Reject line d a b c e f (x ∷ xs) (y ∷ ys) many other some others = refl
-alike_at (stage.Open l u p r) line d a b c e f (x ∷ xs) (y ∷ ys) many other some others = refl
+alike_at (stage.Open o) line d a b c e f (x ∷ xs) (y ∷ ys) many other some others = refl
 alike_at stage.Done line d a b c e f (x ∷ xs) (y ∷ ys) many other some others = refl
 
 -- what stands behind 14 words makes no difference

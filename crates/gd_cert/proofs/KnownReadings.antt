@@ -5,7 +5,7 @@ use Rattle.std.specs.Fmt.{digits}
 use Rattle.gd_base.specs.declared.verdict.Reason.TheVariants as reason
 use Rattle.gd_cells.specs.declared.node.Node.TheVariants.{Refuted}
 use Rattle.gd_cert.specs.Certificates.{Accept, Reject, Plain}
-use Rattle.gd_cert.specs.Reading.{counts_in, drafted, fault, group_in, heading_in, node_in, reading, told_in, witness_in}
+use Rattle.gd_cert.specs.Reading.{counts_in, counts_of, drafted, fault, group_in, heading_in, node_in, reading, told_in, witness_in}
 use Rattle.gd_cert.specs.Words.{number_below, number_of, signed_number, words_of}
 use Rattle.gd_cert.specs.declared.rule.Rule.TheVariants as rule
 use Rattle.gd_cert.specs.declared.stage.Stage.TheVariants as stage
@@ -73,7 +73,7 @@ blank_line_in_a_tree = refl
 undecided_in_a_reject : node_in false (words_of (codes "o")) ≡ Err rule.Words
 undecided_in_a_reject = refl
 
-counts : counts_in (words_of (codes "at 1 2 3 floor")) ≡ Ok (stage.Open 1 2 3 reason.Floor)
+counts : counts_in (words_of (codes "at 1 2 3 floor")) ≡ Ok (stage.Open (counts_of 1 2 3 reason.Floor))
 unfolding number_below digits
 counts = refl
 
