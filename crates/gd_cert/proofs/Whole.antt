@@ -94,7 +94,7 @@ step_at stage.Counts line words d e at is h =
     let (s, found, made) = bind_ok (counts_in words) _ e h in
     subst (Stepped line (told_lines stage.Counts d) words) (ok_same (at_stage s d) e made) (counts_step line words d s is (counts_found words s found))
 step_at stage.Reject line words d e at is h = reject_step line words d e at is h
-step_at (stage.Open l u p r) line words d e at is h = open_step line l u p r words d e at is h
+step_at (stage.Open o) line words d e at is h = open_step line o words d e at is h
 step_at stage.Done line words d e at is h = cc h
 
 step : (line : ℕ) (words : List (List ℕ)) (d e : Draft) → IsDraft d.stage line d → with_line line words d ≡ Ok e → Stepped line (told_lines d.stage d) words e
@@ -127,7 +127,7 @@ ended stage.Group piece d e h = cc h
 ended stage.Witness piece d e h = cc h
 ended stage.Counts piece d e h = cc h
 ended stage.Reject piece d e h = cc h
-ended (stage.Open l u p r) piece d e h = cc h
+ended (stage.Open o) piece d e h = cc h
 
 -- what was read
 pub record Spelled (before : List ℕ) (pieces_left : List (List ℕ)) (d : Draft) : Type 0 where

@@ -12,6 +12,7 @@ use Rattle.gd_cert.specs.declared.fault.CertReadFault.{CertReadFault}
 use Rattle.gd_cert.specs.declared.fault.CertReadFault.TheVariants as read_fault
 use Rattle.gd_cert.specs.declared.rule.Rule.{Rule}
 use Rattle.gd_cert.specs.declared.rule.Rule.TheVariants as rule
+use Rattle.gd_cert.specs.declared.stage.Counts.{Counts}
 use Rattle.gd_cert.specs.declared.stage.Stage.{Stage}
 use Rattle.gd_cert.specs.declared.stage.Stage.TheVariants as stage
 
@@ -149,13 +150,16 @@ reason_in word =
     else if is_word word (codes "floor") then Some reason.Floor
     else None
 
+abbrev pub counts_of : ℕ → ℕ → ℕ → Reason → Counts
+counts_of level undecided spent why = record { level = level; undecided = undecided; spent = spent; reason = why }
+
 -- three counts and a reason
 abbrev pub level_in : List (List ℕ) → Result Stage Rule
 level_in (level ∷ undecided ∷ spent ∷ why ∷ []) =
     and_then_read (or_rule (reason_in why) rule.Words) (λ r.
     and_then_read (or_rule (number_of level) rule.Number) (λ l.
     and_then_read (or_rule (number_of undecided) rule.Number) (λ u.
-    and_then_read (or_rule (number_of spent) rule.Number) (λ s. Ok (stage.Open l u s r)))))
+    and_then_read (or_rule (number_of spent) rule.Number) (λ s. Ok (stage.Open (counts_of l u s r))))))
 level_in words = Err rule.Words
 
 -- `at L U S budget` or `at L U S floor`
@@ -182,6 +186,9 @@ node_in undecided (word ∷ words) =
     else if is_word word (codes "s") then lone Split words
     else if is_word word (codes "o") && undecided then lone Left words
     else Err rule.Words
+
+abbrev pub open_body : Counts → List Node → Body
+open_body counts tree = Open counts.level counts.undecided counts.spent counts.reason tree
 
 -- such a line ends a tree
 abbrev pub ends_tree : List (List ℕ) → Bool
@@ -234,7 +241,7 @@ with_line_at stage.Group line words d = with_group line words d
 with_line_at stage.Witness line words d = with_witness words d
 with_line_at stage.Counts line words d = with_counts words d
 with_line_at stage.Reject line words d = with_tree_line line words false (Reject d.tree) d
-with_line_at (stage.Open level undecided spent why) line words d = with_tree_line line words true (Open level undecided spent why d.tree) d
+with_line_at (stage.Open counts) line words d = with_tree_line line words true (open_body counts d.tree) d
 with_line_at stage.Done line words d = Err rule.Behind
 
 -- what the lines tell with one more, of which these are the words

@@ -10,7 +10,7 @@ ghost use Rattle.gd_cert.specs.Words.{is_requirement, is_word};
 use crate::cert::{CertBody, Head};
 use crate::number::{read_below, read_number, read_signed_all};
 use crate::rule::{LineFault, Rule};
-use crate::stage::Stage;
+use crate::stage::{Counts, Stage};
 use gd_base::limits::{BUDGET, TOLERANCE};
 use gd_base::{Name2, Reason};
 use gd_cells::{Evidence, Node};
@@ -252,12 +252,12 @@ fn read_level(words: &[&[u8]]) -> Result<Stage, Rule>
     let level = read_number(level).ok_or(Rule::Number)?;
     let undecided = read_number(undecided).ok_or(Rule::Number)?;
     let spent = read_number(spent).ok_or(Rule::Number)?;
-    Ok(Stage::Open {
+    Ok(Stage::Open(Counts {
         level,
         undecided,
         spent,
         reason,
-    })
+    }))
 }
 
 fn read_reason(word: &[u8]) -> Option<Reason>
