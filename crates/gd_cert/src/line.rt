@@ -4,7 +4,7 @@ ghost use Rattle.std.specs.Prelude.{◌≡◌, ◌+◌, ◌<◌, ◌^◌, true};
 ghost use Rattle.gd_cert.specs.Bounds.{is_requirement_byte};
 ghost use Rattle.gd_cert.specs.Certificates.{body_of, heading_of};
 ghost use Rattle.gd_cert.specs.Drafts.{Answers, texts};
-ghost use Rattle.gd_cert.specs.Reading.{counts_in, end_in, ends_tree, evidence_in, group_in, heading_in, level_in, lone, node_in, number_and_verdict_in, place_in, probe_in, reason_in, share_in, sized_in, title_in, told_in, verdict_in, witness_in};
+ghost use Rattle.gd_cert.specs.Lines.{counts_in, end_in, ends_tree, evidence_in, group_in, heading_in, level_in, lone, node_in, number_and_verdict_in, place_in, probe_in, reason_in, share_in, sized_in, title_in, told_in, verdict_in, witness_in};
 ghost use Rattle.gd_cert.specs.Words.{is_requirement, is_word};
 
 use crate::cert::{CertBody, Head};
