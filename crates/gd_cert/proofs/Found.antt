@@ -4,7 +4,6 @@ use Rattle.std.specs.Prelude.{Ok, codes}
 use Rattle.std.specs.List.{All}
 use Rattle.std.proofs.lemmas.List.{length-append, length-map, map-append, append_assoc, append-nil}
 use Rattle.std.proofs.lemmas.List.Elements.{All-nil, All-push}
-use Rattle.gd_base.specs.declared.verdict.Reason.{Reason}
 use Rattle.gd_cells.specs.declared.node.Node.{Node}
 use Rattle.gd_cert.proofs.Lines.{IsCountsLine, IsGroupLine, IsNodeLine, IsWitness, bind_ok, chosen, counts_words, group_found, group_line, node_found, ok_same}
 use Rattle.gd_cert.specs.Bounds.{BodyFits, CountsFit, IsDecided, IsInBounds, NodeFits}

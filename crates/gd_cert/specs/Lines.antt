@@ -4,7 +4,7 @@ use Rattle.gd_base.specs.declared.verdict.Reason.{Reason}
 use Rattle.gd_base.specs.declared.verdict.Reason.TheVariants as reason
 use Rattle.gd_cells.specs.declared.node.Node.{Node}
 use Rattle.gd_cells.specs.declared.node.Node.TheVariants.{Split, Refuted, Left}
-use Rattle.gd_cert.specs.Certificates.{Body, Accept, Reject, Open, Heading, Plain, Probe}
+use Rattle.gd_cert.specs.Certificates.{Body, Accept, Open, Heading, Plain, Probe}
 use Rattle.gd_cert.specs.Words.{and_then_read, is_requirement, is_word, number_below, number_of, or_rule, signed_numbers}
 use Rattle.gd_cert.specs.declared.rule.Rule.{Rule}
 use Rattle.gd_cert.specs.declared.rule.Rule.TheVariants as rule
