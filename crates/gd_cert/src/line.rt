@@ -20,6 +20,9 @@ use std::str;
 // The greatest number of groups that is told.
 const GROUPS: u64 = 300_000;
 
+// The most bytes of a requirement's name.
+const NAME_BYTES: usize = 48;
+
 fn is(word: &[u8], other: &[u8]) -> bool
     ensures { result ≡ is_word word.now other.now }
 {
@@ -80,7 +83,7 @@ fn read_probe(alloc: Global, name: &[u8], tolerance: &[u8]) -> Result<Head, Line
 fn is_requirement_name(word: &[u8]) -> bool
     ensures { result ≡ is_requirement word.now }
 {
-    1 <= word.len() && word.len() <= 48 && are_bytes_of_requirement(word)
+    1 <= word.len() && word.len() <= NAME_BYTES && are_bytes_of_requirement(word)
 }
 
 fn are_bytes_of_requirement(word: &[u8]) -> bool
