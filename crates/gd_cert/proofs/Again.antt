@@ -11,7 +11,8 @@ use Rattle.gd_cert.proofs.Lines.{counts_again, counts_words, group_again, group_
 use Rattle.gd_cert.proofs.Split.{Clean, Lines, counts_line, end_line, group_is_line, heading_line, line_step, node_line, share_line, title_line, told_line, witness_line}
 use Rattle.gd_cert.specs.Bounds.{BodyFits, IsDecided, IsInBounds, NodeFits}
 use Rattle.gd_cert.specs.Certificates.{Body, Accept, Reject, Open, Certificate}
-use Rattle.gd_cert.specs.Reading.{Draft, Placed, at_stage, bodies_of, certificate_in, counts_of, open_body, drafted, drafted_from, empty_draft, ends_tree, reading, verdict_in, with_body, with_group, with_line, with_node, with_tree_in}
+use Rattle.gd_cert.specs.Lines.{counts_of, open_body, ends_tree, verdict_in}
+use Rattle.gd_cert.specs.Reading.{Draft, Placed, at_stage, bodies_of, certificate_in, drafted, drafted_from, empty_draft, reading, with_body, with_group, with_line, with_node, with_tree_in}
 use Rattle.gd_cert.specs.Text.{body_lines, groups_lines, heading_words, line_text, lines, node_words, text, title, verdict_word}
 use Rattle.gd_cert.specs.Words.{and_then_read, pieces}
 use Rattle.gd_cert.specs.declared.fault.CertFault.{CertFault}

@@ -7,7 +7,8 @@ use Rattle.std.proofs.lemmas.List.{length-append, length-map, map-append}
 use Rattle.std.proofs.lemmas.List.Splits.{length-slice_split}
 use Rattle.gd_cert.specs.Certificates.{Body}
 use Rattle.gd_cert.specs.Drafts.{TellsAlike, texts}
-use Rattle.gd_cert.specs.Reading.{Draft, place_in, with_body, with_line, with_line_at, witness_in}
+use Rattle.gd_cert.specs.Lines.{place_in, witness_in}
+use Rattle.gd_cert.specs.Reading.{Draft, with_body, with_line, with_line_at}
 use Rattle.gd_cert.specs.Words.{and_then_read, is_word, words_of}
 use Rattle.gd_cert.specs.declared.rule.Rule.{Rule}
 use Rattle.gd_cert.specs.declared.rule.Rule.TheVariants as rule

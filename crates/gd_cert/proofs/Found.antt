@@ -4,12 +4,12 @@ use Rattle.std.specs.Prelude.{Ok, codes}
 use Rattle.std.specs.List.{All}
 use Rattle.std.proofs.lemmas.List.{length-append, length-map, map-append, append_assoc, append-nil}
 use Rattle.std.proofs.lemmas.List.Elements.{All-nil, All-push}
-use Rattle.gd_base.specs.declared.verdict.Reason.{Reason}
 use Rattle.gd_cells.specs.declared.node.Node.{Node}
 use Rattle.gd_cert.proofs.Lines.{IsCountsLine, IsGroupLine, IsNodeLine, IsWitness, bind_ok, chosen, counts_words, group_found, group_line, node_found, ok_same}
 use Rattle.gd_cert.specs.Bounds.{BodyFits, CountsFit, IsDecided, IsInBounds, NodeFits}
 use Rattle.gd_cert.specs.Certificates.{Body, Accept, Reject, Open}
-use Rattle.gd_cert.specs.Reading.{Draft, Placed, at_stage, bodies_of, certificate_in, ends_tree, group_in, lines_of, node_in, open_body, with_tree_in, with_body, with_group, with_tree_line}
+use Rattle.gd_cert.specs.Lines.{ends_tree, group_in, node_in, open_body}
+use Rattle.gd_cert.specs.Reading.{Draft, Placed, at_stage, bodies_of, certificate_in, lines_of, with_tree_in, with_body, with_group, with_tree_line}
 use Rattle.gd_cert.specs.Text.{body_lines, first_lines, groups_lines, heading_words, node_words, title, verdict_word}
 use Rattle.gd_cert.specs.declared.stage.Counts.{Counts}
 use Rattle.gd_cert.specs.declared.stage.Stage.{Stage}

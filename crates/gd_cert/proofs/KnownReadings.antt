@@ -1,11 +1,10 @@
 -- Values worked by hand, so that a wrong definition doesn't check.
-use Rattle.std.proofs.Common.{◌≡◌, ℕ, List, [], ◌∷◌, Some, None, true, false, refl}
-use Rattle.std.specs.Prelude.{pos, negsuc, codes, Ok, Err}
+use Rattle.std.proofs.Common.{◌≡◌, [], ◌∷◌, Some, None, true, false, refl}
+use Rattle.std.specs.Prelude.{negsuc, codes, Ok, Err}
 use Rattle.std.specs.Fmt.{digits}
 use Rattle.gd_base.specs.declared.verdict.Reason.TheVariants as reason
-use Rattle.gd_cells.specs.declared.node.Node.TheVariants.{Refuted}
-use Rattle.gd_cert.specs.Certificates.{Accept, Reject, Plain}
-use Rattle.gd_cert.specs.Reading.{counts_in, counts_of, drafted, fault, group_in, heading_in, node_in, reading, told_in, witness_in}
+use Rattle.gd_cert.specs.Lines.{counts_in, counts_of, group_in, node_in, told_in, witness_in}
+use Rattle.gd_cert.specs.Reading.{drafted, fault, reading}
 use Rattle.gd_cert.specs.Words.{number_below, number_of, signed_number, words_of}
 use Rattle.gd_cert.specs.declared.rule.Rule.TheVariants as rule
 use Rattle.gd_cert.specs.declared.stage.Stage.TheVariants as stage

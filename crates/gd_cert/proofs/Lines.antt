@@ -14,7 +14,7 @@ use Rattle.gd_cells.specs.declared.node.Node.TheVariants.{Split, Refuted, Left}
 use Rattle.gd_cert.proofs.Numbers.{below_again, below_spelled, both, signed_again, signed_spelled}
 use Rattle.gd_cert.specs.Bounds.{CountsFit, HeadingFits, IsDecided, IsRequirement, NodeFits, WitnessFits, is_requirement_byte}
 use Rattle.gd_cert.specs.Certificates.{Body, Accept, Heading, Plain, Probe}
-use Rattle.gd_cert.specs.Reading.{begun_by, counts_in, counts_of, end_in, evidence_in, group_in, heading_in, level_in, lone, node_in, number_and_verdict_in, place_in, reason_in, share_in, sized_in, title_in, told_in, verdict_in, witness_in}
+use Rattle.gd_cert.specs.Lines.{begun_by, counts_in, counts_of, end_in, evidence_in, group_in, heading_in, level_in, lone, node_in, number_and_verdict_in, place_in, reason_in, share_in, sized_in, title_in, told_in, verdict_in, witness_in}
 use Rattle.gd_cert.specs.Text.{heading_words, node_words, reason_word, title}
 use Rattle.gd_cert.specs.Words.{and_then_read, is_requirement, is_word, number_below, number_of, onto, or_rule, signed_number, signed_numbers}
 use Rattle.gd_cert.specs.declared.rule.Rule.{Rule}

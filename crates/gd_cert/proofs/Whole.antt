@@ -10,7 +10,8 @@ use Rattle.gd_cert.proofs.Found.{IsDraft, Stepped, counts_step, group_step, last
 use Rattle.gd_cert.proofs.Lines.{bind_ok, counts_found, heading_found, ok_same, passed, share_found, title_found, told_found, witness_found}
 use Rattle.gd_cert.specs.Bounds.{BodyFits, IsInBounds}
 use Rattle.gd_cert.specs.Certificates.{Certificate}
-use Rattle.gd_cert.specs.Reading.{Draft, at_stage, bodies_of, certificate_in, counts_in, drafted, drafted_from, empty_draft, heading_in, last_fault, lines_of, on_line, reading, share_in, title_in, told_in, unless, with_body, with_line, with_line_at, witness_in}
+use Rattle.gd_cert.specs.Lines.{counts_in, heading_in, share_in, title_in, told_in, witness_in}
+use Rattle.gd_cert.specs.Reading.{Draft, at_stage, bodies_of, certificate_in, drafted, drafted_from, empty_draft, last_fault, lines_of, on_line, reading, unless, with_body, with_line, with_line_at}
 use Rattle.gd_cert.specs.Text.{first_lines, groups_lines, heading_words, line_text, lines, spaced, text, title}
 use Rattle.gd_cert.specs.Words.{and_then_read, pieces, words_of}
 use Rattle.gd_cert.specs.declared.fault.CertFault.{CertFault}

@@ -2,7 +2,8 @@
 ghost use Rattle.std.specs.Prelude.{◌≡◌, OnOk, false, true, map};
 ghost use Rattle.gd_cert.specs.Certificates.{Reject, body_of, certificate_of};
 ghost use Rattle.gd_cert.specs.Drafts.{Takes, draft_of, texts};
-ghost use Rattle.gd_cert.specs.Reading.{certificate_in, empty_draft, last_fault, lines_of, open_body, with_body, with_counts, with_group, with_heading, with_line, with_node, with_share, with_title, with_told, with_tree_line, with_witness, without_tree};
+ghost use Rattle.gd_cert.specs.Lines.{open_body};
+ghost use Rattle.gd_cert.specs.Reading.{certificate_in, empty_draft, last_fault, lines_of, with_body, with_counts, with_group, with_heading, with_line, with_node, with_share, with_title, with_told, with_tree_line, with_witness, without_tree};
 ghost use Rattle.gd_cert.specs.declared.cert.CertGroup.{CertGroup};
 
 use crate::cert::{Cert, CertBody, CertGroup, Head};

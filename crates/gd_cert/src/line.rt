@@ -4,7 +4,7 @@ ghost use Rattle.std.specs.Prelude.{◌≡◌, ◌+◌, ◌<◌, ◌^◌, true};
 ghost use Rattle.gd_cert.specs.Bounds.{is_requirement_byte};
 ghost use Rattle.gd_cert.specs.Certificates.{body_of, heading_of};
 ghost use Rattle.gd_cert.specs.Drafts.{Answers, texts};
-ghost use Rattle.gd_cert.specs.Reading.{counts_in, end_in, ends_tree, evidence_in, group_in, heading_in, level_in, lone, node_in, number_and_verdict_in, place_in, probe_in, reason_in, share_in, sized_in, title_in, told_in, verdict_in, witness_in};
+ghost use Rattle.gd_cert.specs.Lines.{counts_in, end_in, ends_tree, evidence_in, group_in, heading_in, level_in, lone, node_in, number_and_verdict_in, place_in, probe_in, reason_in, share_in, sized_in, title_in, told_in, verdict_in, witness_in};
 ghost use Rattle.gd_cert.specs.Words.{is_requirement, is_word};
 
 use crate::cert::{CertBody, Head};
@@ -19,6 +19,9 @@ use std::str;
 
 // The greatest number of groups that is told.
 const GROUPS: u64 = 300_000;
+
+// The most bytes of a requirement's name.
+const NAME_BYTES: usize = 48;
 
 fn is(word: &[u8], other: &[u8]) -> bool
     ensures { result ≡ is_word word.now other.now }
@@ -80,7 +83,7 @@ fn read_probe(alloc: Global, name: &[u8], tolerance: &[u8]) -> Result<Head, Line
 fn is_requirement_name(word: &[u8]) -> bool
     ensures { result ≡ is_requirement word.now }
 {
-    1 <= word.len() && word.len() <= 48 && are_bytes_of_requirement(word)
+    1 <= word.len() && word.len() <= NAME_BYTES && are_bytes_of_requirement(word)
 }
 
 fn are_bytes_of_requirement(word: &[u8]) -> bool
