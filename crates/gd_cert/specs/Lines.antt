@@ -5,6 +5,7 @@ use Rattle.gd_base.specs.declared.verdict.Reason.TheVariants as reason
 use Rattle.gd_cells.specs.declared.node.Node.{Node}
 use Rattle.gd_cells.specs.declared.node.Node.TheVariants.{Split, Refuted, Left}
 use Rattle.gd_cert.specs.Certificates.{Body, Accept, Open, Heading, Plain, Probe}
+use Rattle.gd_cert.specs.Text.{format, version}
 use Rattle.gd_cert.specs.Words.{and_then_read, is_requirement, is_word, number_below, number_of, or_rule, signed_numbers}
 use Rattle.gd_cert.specs.declared.rule.Rule.{Rule}
 use Rattle.gd_cert.specs.declared.rule.Rule.TheVariants as rule
@@ -14,7 +15,7 @@ use Rattle.gd_cert.specs.declared.stage.Stage.TheVariants as stage
 
 -- `gdcert 1`
 abbrev pub title_in : List (List ℕ) → Bool
-title_in (name ∷ version ∷ []) = is_word name (codes "gdcert") && is_word version (codes "1")
+title_in (name ∷ number ∷ []) = is_word name format && is_word number version
 title_in words = false
 
 -- a requirement at a tolerance

@@ -8,11 +8,12 @@ ghost use Rattle.gd_cert.specs.declared.cert.CertGroup.{CertGroup};
 
 use crate::cert::{Cert, CertBody, CertGroup, Head};
 use crate::line::{
-    is_behind_tree, is_title, read_counts, read_group, read_heading, read_node, read_share,
-    read_told, read_witness,
+    is_behind_tree, read_counts, read_group, read_heading, read_node, read_share, read_told,
+    read_witness,
 };
 use crate::rule::{LineFault, Rule};
 use crate::stage::{Counts, Stage};
+use crate::title::is_title;
 use gd_base::Memory;
 use gd_cells::Node;
 use std::alloc::Global;
