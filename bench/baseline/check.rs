@@ -1,15 +1,15 @@
 //! The check of a certificate of flatness: each line is decided from the points, without a search.
 
 use crate::certificate::{Body, Certificate, Fault, Head, Node};
-use crate::flat::{self, Cell, Directions, FINEST, ONE, Reason};
-use crate::points::Row;
+use crate::flat::{self, Cell, FINEST, NO_LEAD, ONE, Reason};
+use crate::points::Columns;
 
 /// The line behind that of the only group.
 const BEHIND_GROUP: u32 = 6;
 
 /// The task of flatness that the lines are decided for.
 struct Task<'a> {
-    rows: &'a [Row],
+    points: &'a Columns<'a>,
     tolerance: u32,
 }
 
@@ -20,32 +20,23 @@ enum Kind {
     Open { last: u32 },
 }
 
-/// The least and the greatest value of a point along the directions of a cell, from the first point on.
-fn ends(rows: &[Row], at: usize, within: &Directions) -> (i64, i64) {
-    (0..3).fold((0, 0), |(low, high), axis| {
-        let apart = rows[at].at[axis] - rows[0].at[axis];
-        let (p, q) = (within.lo[axis] * apart, within.hi[axis] * apart);
-        (low + p.min(q), high + p.max(q))
-    })
-}
-
 impl Task<'_> {
     /// Whether two points, by their numbers from 1, lie further apart than the tolerance along each direction of a cell.
     fn is_refuted(&self, cell: &Cell, level: u32, a: u32, b: u32) -> bool {
-        let is_point = |it: u32| (1..=self.rows.len()).contains(&(it as usize));
+        let is_point = |it: u32| (1..=self.points.axes[0].len()).contains(&(it as usize));
         if !is_point(a) || !is_point(b) {
             return false;
         }
         let within = cell.directions(level);
-        let (low, _) = ends(self.rows, a as usize - 1, &within);
-        let (_, high) = ends(self.rows, b as usize - 1, &within);
+        let (low, _) = flat::span::<NO_LEAD>(&within, self.points, a as usize - 1);
+        let (_, high) = flat::span::<NO_LEAD>(&within, self.points, b as usize - 1);
         flat::is_above(low - high, self.tolerance, within.length2())
     }
 
     /// Whether something refutes a cell, or its centre holds.
     fn is_decided(&self, cell: &Cell, level: u32) -> bool {
-        flat::first_evidence(self.rows, self.tolerance, &cell.directions(level)).is_some()
-            || flat::holds(self.rows, self.tolerance, &cell.centre(level))
+        flat::first_evidence(self.points, self.tolerance, &cell.directions(level)).is_some()
+            || flat::holds(self.points, self.tolerance, &cell.centre(level))
     }
 
     /// What is wrong with the line of a cell.
@@ -88,7 +79,7 @@ impl Task<'_> {
             return fault(52);
         }
         let direction = flat::direction(root as usize - 1, [a, b]);
-        if flat::holds(self.rows, self.tolerance, &direction) { Ok(()) } else { fault(51) }
+        if flat::holds(self.points, self.tolerance, &direction) { Ok(()) } else { fault(51) }
     }
 }
 
@@ -108,8 +99,8 @@ fn are_right_counts(budget: u32, (level, undecided, spent): (u32, u32, u32), rea
 }
 
 /// The first wrong line of a certificate of flatness, if any is wrong.
-pub fn check(rows: &[Row], tolerance: u32, certificate: &Certificate) -> Result<(), Fault> {
-    let task = Task { rows, tolerance };
+pub fn check(points: &Columns, tolerance: u32, certificate: &Certificate) -> Result<(), Fault> {
+    let task = Task { points, tolerance };
     if certificate.head != Head::Plain {
         return Err(Fault { line: 2, code: 55 });
     }

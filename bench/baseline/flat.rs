@@ -1,6 +1,6 @@
 //! Flatness by cells of directions, level by level, in exact whole numbers.
 
-use crate::points::Row;
+use crate::points::Columns;
 
 /// A ratio of 1.
 pub const ONE: i64 = 1 << 30;
@@ -97,41 +97,93 @@ pub struct Evidence {
     pub nearest: u32,
 }
 
+/// Points are looked at in blocks of so many.
+const BLOCK: usize = 512;
+/// No axis is known to lead.
+pub const NO_LEAD: usize = 3;
+
+/// Both ends of an entry times a difference, in order. A negative difference turns them round.
+#[inline(always)]
+fn scale(lo: i64, hi: i64, apart: i32) -> (i64, i64) {
+    let (lo, hi) = (lo as i32, hi as i32);
+    let (below, above) = if apart < 0 { (hi, lo) } else { (lo, hi) };
+    (i64::from(below) * i64::from(apart), i64::from(above) * i64::from(apart))
+}
+
+/// The least and the greatest value of a point along a box that leads along an axis, taken from the first point.
+#[inline(always)]
+pub fn span<const AXIS: usize>(within: &Directions, points: &Columns, at: usize) -> (i64, i64) {
+    let (mut low, mut high) = (0, 0);
+    for (axis, column) in points.axes.iter().enumerate() {
+        let apart = column[at] - column[0];
+        let (below, above) = match axis == AXIS {
+            true => (i64::from(apart) << 30, i64::from(apart) << 30),
+            false => scale(within.lo[axis], within.hi[axis], apart),
+        };
+        low += below;
+        high += above;
+    }
+    (low, high)
+}
+
 /// Of the least values of the points along a box the first greatest, and of their greatest values the first least, where
 /// these two lie further apart than the tolerance along each direction of the box.
-pub fn first_evidence(rows: &[Row], tolerance: u32, within: &Directions) -> Option<Evidence> {
-    let first = rows[0].at;
+pub fn first_evidence(points: &Columns, tolerance: u32, within: &Directions) -> Option<Evidence> {
+    match (0..3).find(|&axis| within.lo[axis] == ONE && within.hi[axis] == ONE) {
+        Some(0) => first_evidence_by::<0>(points, tolerance, within),
+        Some(1) => first_evidence_by::<1>(points, tolerance, within),
+        Some(_) => first_evidence_by::<2>(points, tolerance, within),
+        None => first_evidence_by::<NO_LEAD>(points, tolerance, within),
+    }
+}
+
+/// The same where an axis is known to lead.
+///
+/// A block is told by its extremes, and the points are looked up in the two blocks that have the extremes of all first.
+fn first_evidence_by<const AXIS: usize>(points: &Columns, tolerance: u32, within: &Directions) -> Option<Evidence> {
+    let points = &points.same_length();
+    let count = points.axes[0].len();
     let (mut farthest, mut nearest) = ((0, 0), (0, 0));
-    for (at, row) in rows.iter().enumerate().skip(1) {
-        let (mut low, mut high) = (0, 0);
-        for axis in 0..3 {
-            let apart = row.at[axis] - first[axis];
-            let (p, q) = (within.lo[axis] * apart, within.hi[axis] * apart);
-            low += p.min(q);
-            high += p.max(q);
+    for from in (1..count).step_by(BLOCK) {
+        let (mut low, mut high) = (farthest.0, nearest.0);
+        for at in from..count.min(from + BLOCK) {
+            let it = span::<AXIS>(within, points, at);
+            low = low.max(it.0);
+            high = high.min(it.1);
         }
         if low > farthest.0 {
-            farthest = (low, at);
+            farthest = (low, from);
         }
         if high < nearest.0 {
-            nearest = (high, at);
+            nearest = (high, from);
         }
     }
-    is_above(farthest.0 - nearest.0, tolerance, within.length2())
-        .then(|| Evidence { farthest: farthest.1 as u32 + 1, nearest: nearest.1 as u32 + 1 })
+    is_above(farthest.0 - nearest.0, tolerance, within.length2()).then(|| {
+        let far = (farthest.1..count).find(|&at| span::<AXIS>(within, points, at).0 == farthest.0);
+        let near = (nearest.1..count).find(|&at| span::<AXIS>(within, points, at).1 == nearest.0);
+        Evidence { farthest: far.unwrap_or(count) as u32 + 1, nearest: near.unwrap_or(count) as u32 + 1 }
+    })
 }
 
-/// The greatest value of the points along a direction less the least: it fits 64 bits.
-fn spread(rows: &[Row], n: &[i64; 3]) -> i64 {
-    let value = |row: &Row| n[0] * row.at[0] + n[1] * row.at[1] + n[2] * row.at[2];
-    let first = value(&rows[0]);
-    let (least, most) = rows[1..].iter().map(value).fold((first, first), |(low, high), it| (low.min(it), high.max(it)));
-    most - least
-}
-
-/// Whether the points lie within the tolerance along a direction.
-pub fn holds(rows: &[Row], tolerance: u32, n: &[i64; 3]) -> bool {
-    !is_above(spread(rows, n), tolerance, n.iter().map(|&it| square(it)).sum())
+/// Whether the points lie within the tolerance along a direction. It ends at the first block with which they don't.
+pub fn holds(points: &Columns, tolerance: u32, n: &[i64; 3]) -> bool {
+    let points = &points.same_length();
+    let [x, y, z] = points.axes;
+    let [a, b, c] = n.map(|entry| i64::from(entry as i32));
+    let value = |at: usize| a * i64::from(x[at]) + b * i64::from(y[at]) + c * i64::from(z[at]);
+    let length2 = n.iter().map(|&it| square(it)).sum();
+    let (mut least, mut most) = (value(0), value(0));
+    for from in (1..x.len()).step_by(BLOCK) {
+        for at in from..x.len().min(from + BLOCK) {
+            let it = value(at);
+            least = least.min(it);
+            most = most.max(it);
+        }
+        if is_above(most - least, tolerance, length2) {
+            return false;
+        }
+    }
+    true
 }
 
 /// What was found in a cell.
@@ -140,10 +192,10 @@ enum Found {
     Undecided { holds: bool },
 }
 
-fn bound(rows: &[Row], tolerance: u32, cell: &Cell, level: u32) -> Found {
-    match first_evidence(rows, tolerance, &cell.directions(level)) {
+fn bound(points: &Columns, tolerance: u32, cell: &Cell, level: u32) -> Found {
+    match first_evidence(points, tolerance, &cell.directions(level)) {
         Some(evidence) => Found::Refuted(evidence),
-        None => Found::Undecided { holds: holds(rows, tolerance, &cell.centre(level)) },
+        None => Found::Undecided { holds: holds(points, tolerance, &cell.centre(level)) },
     }
 }
 
@@ -191,12 +243,12 @@ impl Outcome {
 }
 
 /// How the search of a budget ends.
-pub fn judge(rows: &[Row], tolerance: u32, budget: u32) -> Outcome {
+pub fn judge(points: &Columns, tolerance: u32, budget: u32) -> Outcome {
     let mut cells = Cell::roots().to_vec();
     let mut levels = Vec::new();
     let mut spent = 0;
     for level in 0..=FINEST {
-        let found: Vec<Found> = cells.iter().map(|cell| bound(rows, tolerance, cell, level)).collect();
+        let found: Vec<Found> = cells.iter().map(|cell| bound(points, tolerance, cell, level)).collect();
         let holding = found.iter().position(|it| matches!(it, Found::Undecided { holds: true }));
         if let Some(at) = holding {
             return Outcome::Accept { level, cell: cells[at] };

@@ -43,7 +43,7 @@ fn table_of(file: &str) -> Result<points::Table, Answer> {
 /// Judges a points file, and stores the certificate where a file is named for it.
 fn judge(file: &str, tolerance: u32, budget: u32, stored: Option<&str>) -> Result<Answer, Answer> {
     let table = table_of(file)?;
-    let outcome = flat::judge(&table.rows, tolerance, budget);
+    let outcome = flat::judge(&table.columns(), tolerance, budget);
     if let Some(stored) = stored {
         fs::write(stored, Certificate::of(&outcome, budget).text()).map_err(|_| (String::new(), 6))?;
     }
@@ -57,7 +57,7 @@ fn check(file: &str, tolerance: u32, stored: &str) -> Result<Answer, Answer> {
     let too_long = Fault { line: 0, code: 46 };
     let bytes = points::load(stored).map_err(|_| cannot_read(stored))?.ok_or_else(|| invalid(too_long))?;
     let certificate = certificate_reader::read(&bytes).map_err(invalid)?;
-    check::check(&table.rows, tolerance, &certificate).map_err(invalid)?;
+    check::check(&table.columns(), tolerance, &certificate).map_err(invalid)?;
     Ok(("valid\n".into(), 0))
 }
 

@@ -11,10 +11,12 @@ use Rattle.gd_cert.proofs.Lines.{counts_again, counts_words, group_again, group_
 use Rattle.gd_cert.proofs.Split.{Clean, Lines, counts_line, end_line, group_is_line, heading_line, line_step, node_line, share_line, title_line, told_line, witness_line}
 use Rattle.gd_cert.specs.Bounds.{BodyFits, IsDecided, IsInBounds, NodeFits}
 use Rattle.gd_cert.specs.Certificates.{Body, Accept, Reject, Open, Certificate}
-use Rattle.gd_cert.specs.Reading.{Draft, Placed, at_stage, bodies_of, certificate_in, drafted, drafted_from, empty_draft, ends_tree, reading, verdict_in, with_body, with_group, with_line, with_node, with_tree_in}
+use Rattle.gd_cert.specs.Lines.{counts_of, open_body, ends_tree, verdict_in}
+use Rattle.gd_cert.specs.Reading.{Draft, Placed, at_stage, bodies_of, certificate_in, drafted, drafted_from, empty_draft, reading, with_body, with_group, with_line, with_node, with_tree_in}
 use Rattle.gd_cert.specs.Text.{body_lines, groups_lines, heading_words, line_text, lines, node_words, text, title, verdict_word}
 use Rattle.gd_cert.specs.Words.{and_then_read, pieces}
 use Rattle.gd_cert.specs.declared.fault.CertFault.{CertFault}
+use Rattle.gd_cert.specs.declared.stage.Counts.{Counts}
 use Rattle.gd_cert.specs.declared.stage.Stage.{Stage}
 use Rattle.gd_cert.specs.declared.stage.Stage.TheVariants as stage
 
@@ -32,9 +34,9 @@ in_reject : InTree stage.Reject false
 unfolding with_line
 in_reject line words d at other = rw (at, other) refl
 
-in_open : (l u p : ℕ) (r : Reason) → InTree (stage.Open l u p r) true
+in_open : (o : Counts) → InTree (stage.Open o) true
 unfolding with_line
-in_open l u p r line words d at other = rw (at, other) refl
+in_open o line words d at other = rw (at, other) refl
 
 abbrev grown : Draft → List Node → Draft
 grown d tree = record { heading = d.heading; share = d.share; told = d.told; groups = d.groups; stage = d.stage; begun = d.begun; tree = tree }
@@ -76,9 +78,9 @@ behind_reject : (d : Draft) → d.stage ≡ stage.Reject → IsAsBetween d (with
 unfolding with_line
 behind_reject d at line words ends = rw (at, ends) refl
 
-behind_open : (d : Draft) (l u p : ℕ) (r : Reason) → d.stage ≡ stage.Open l u p r → IsAsBetween d (with_tree_in (Open l u p r d.tree) d)
+behind_open : (d : Draft) (o : Counts) → d.stage ≡ stage.Open o → IsAsBetween d (with_tree_in (open_body o d.tree) d)
 unfolding with_line
-behind_open d l u p r at line words ends = rw (at, ends) refl
+behind_open d o at line words ends = rw (at, ends) refl
 
 -- the certificate with these groups behind those of a draft
 abbrev with_bodies : Draft → List Body → Certificate
@@ -180,16 +182,16 @@ unfolding with_line
 open_again l u p r tree bodies line g fits all none few =
     let later = groups_lines (next_number g + 1) bodies ++ End in
     let e = begun_draft line stage.Counts g in
-    let f = at_stage (stage.Open l u p r) e in
+    let f = at_stage (stage.Open (counts_of l u p r)) e in
     let v = grown f tree in
     let whole : g.tree ++ tree ≡ tree = ap (λ (ns : List Node). ns ++ tree) none in
     then_read (line + 1) (line + 1 + 1 + length tree) e v _ later (with_bodies g (Open l u p r tree ∷ bodies))
     (
     line_step (line + 1) (counts_words l u p r) (map node_words tree ++ later) e f (counts_line l u p r fits.0) (ap (λ q. and_then_read q (λ s. Ok (at_stage s e))) (counts_again l u p r fits.0))
-    ∙ tree_again (stage.Open l u p r) true (in_open l u p r) tree (line + 1 + 1) f later refl fits.1 (λ k d lt is. cc is)
+    ∙ tree_again (stage.Open (counts_of l u p r)) true (in_open (counts_of l u p r)) tree (line + 1 + 1) f later refl fits.1 (λ k d lt is. cc is)
     ∙ (λ i. Reads (line + 1 + 1 + length tree) (grown f (whole i)) later)
     )
-    (then_all bodies (line + 1 + 1 + length tree) line v g (with_tree_in (Open l u p r tree) v) (Open l u p r tree) all (behind_open v l u p r refl) refl refl few)
+    (then_all bodies (line + 1 + 1 + length tree) line v g (with_tree_in (Open l u p r tree) v) (Open l u p r tree) all (behind_open v (counts_of l u p r) refl) refl refl few)
 
 group_of : (body : Body) (bodies : List Body) (word : List ℕ) (s : Stage) (line : ℕ) (d g : Draft) → word ≡ verdict_word body → IsAsBetween d g → next_number g + length (body ∷ bodies) ≤ 2 ^ 32
     → Clean word → verdict_in (word ∷ []) ≡ Some s

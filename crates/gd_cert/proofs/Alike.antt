@@ -1,5 +1,5 @@
 -- A line of more than 14 words has too many, whatever follows the 14th.
-use Rattle.std.proofs.Common.{◌≡◌, ℕ, ◌+◌, ◌≤◌, ◌<◌, Bool, true, false, ◌&&◌, List, [], ◌∷◌, ◌++◌, length, arith, sym, refl, ap, subst, ◌∙◌, ◌==◌, ◌⊎◌, inl, inr, cond}
+use Rattle.std.proofs.Common.{◌≡◌, ℕ, ◌≤◌, ◌<◌, true, false, List, [], ◌∷◌, ◌++◌, length, arith, sym, refl, ap, subst, ◌∙◌, ◌==◌, ◌⊎◌, inl, inr, cond}
 use Rattle.std.specs.Prelude.{Result, Ok, Err, codes, nat_le}
 use Rattle.std.proofs.lemmas.Bool.Decides.{nat_tests}
 use Rattle.std.specs.Borrow.{Bor}
@@ -7,7 +7,8 @@ use Rattle.std.proofs.lemmas.List.{length-append, length-map, map-append}
 use Rattle.std.proofs.lemmas.List.Splits.{length-slice_split}
 use Rattle.gd_cert.specs.Certificates.{Body}
 use Rattle.gd_cert.specs.Drafts.{TellsAlike, texts}
-use Rattle.gd_cert.specs.Reading.{Draft, place_in, with_body, with_line, with_line_at, witness_in}
+use Rattle.gd_cert.specs.Lines.{place_in, witness_in}
+use Rattle.gd_cert.specs.Reading.{Draft, with_body, with_line, with_line_at}
 use Rattle.gd_cert.specs.Words.{and_then_read, is_word, words_of}
 use Rattle.gd_cert.specs.declared.rule.Rule.{Rule}
 use Rattle.gd_cert.specs.declared.rule.Rule.TheVariants as rule
@@ -37,7 +38,7 @@ alike_at stage.Witness line d a b c e f (x ∷ xs) (y ∷ ys) many other some ot
     ap (λ r. and_then_read r (λ body. Ok (with_body body d))) (same_place a b (c ∷ e ∷ f ∷ x ∷ xs) (c ∷ e ∷ f ∷ y ∷ ys) many other)
 alike_at stage.Counts line d a b c e f (x ∷ xs) (y ∷ ys) many other some others = refl
 alike_at stage.Reject line d a b c e f (x ∷ xs) (y ∷ ys) many other some others = refl
-alike_at (stage.Open l u p r) line d a b c e f (x ∷ xs) (y ∷ ys) many other some others = refl
+alike_at (stage.Open o) line d a b c e f (x ∷ xs) (y ∷ ys) many other some others = refl
 alike_at stage.Done line d a b c e f (x ∷ xs) (y ∷ ys) many other some others = refl
 
 -- what stands behind 14 words makes no difference

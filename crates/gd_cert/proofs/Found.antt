@@ -4,13 +4,14 @@ use Rattle.std.specs.Prelude.{Ok, codes}
 use Rattle.std.specs.List.{All}
 use Rattle.std.proofs.lemmas.List.{length-append, length-map, map-append, append_assoc, append-nil}
 use Rattle.std.proofs.lemmas.List.Elements.{All-nil, All-push}
-use Rattle.gd_base.specs.declared.verdict.Reason.{Reason}
 use Rattle.gd_cells.specs.declared.node.Node.{Node}
 use Rattle.gd_cert.proofs.Lines.{IsCountsLine, IsGroupLine, IsNodeLine, IsWitness, bind_ok, chosen, counts_words, group_found, group_line, node_found, ok_same}
 use Rattle.gd_cert.specs.Bounds.{BodyFits, CountsFit, IsDecided, IsInBounds, NodeFits}
 use Rattle.gd_cert.specs.Certificates.{Body, Accept, Reject, Open}
-use Rattle.gd_cert.specs.Reading.{Draft, Placed, at_stage, bodies_of, certificate_in, ends_tree, group_in, lines_of, node_in, with_tree_in, with_body, with_group, with_tree_line}
+use Rattle.gd_cert.specs.Lines.{ends_tree, group_in, node_in, open_body}
+use Rattle.gd_cert.specs.Reading.{Draft, Placed, at_stage, bodies_of, certificate_in, lines_of, with_tree_in, with_body, with_group, with_tree_line}
 use Rattle.gd_cert.specs.Text.{body_lines, first_lines, groups_lines, heading_words, node_words, title, verdict_word}
+use Rattle.gd_cert.specs.declared.stage.Counts.{Counts}
 use Rattle.gd_cert.specs.declared.stage.Stage.{Stage}
 use Rattle.gd_cert.specs.declared.stage.Stage.TheVariants as stage
 
@@ -62,7 +63,7 @@ told_lines stage.Group d = front d d.groups
 told_lines stage.Witness d = front d d.groups ++ group_line (next_number d) (codes "accept") ∷ []
 told_lines stage.Counts d = front d d.groups ++ group_line (next_number d) (codes "open") ∷ []
 told_lines stage.Reject d = front d (extended d (Reject d.tree))
-told_lines (stage.Open level undecided spent why) d = front d (extended d (Open level undecided spent why d.tree))
+told_lines (stage.Open o) d = front d (extended d (open_body o d.tree))
 told_lines stage.Done d = front d d.groups ++ (codes "end" ∷ []) ∷ []
 
 -- the group that was begun has a number, and its line is known
@@ -82,7 +83,7 @@ Current stage.Told d = Fresh d
 Current stage.Witness d = Begun d × (d.tree ≡ [])
 Current stage.Counts d = Begun d × (d.tree ≡ [])
 Current stage.Reject d = Begun d × All NodeFits d.tree × All IsDecided d.tree
-Current (stage.Open level undecided spent why) d = Begun d × CountsFit level undecided spent × All NodeFits d.tree
+Current (stage.Open o) d = Begun d × CountsFit o.level o.undecided o.spent × All NodeFits d.tree
 Current s d = d.tree ≡ []
 
 -- what a draft keeps whose next line is this one
@@ -165,7 +166,7 @@ with_group_found line words d stage.Heading is h = absurd h
 with_group_found line words d stage.Share is h = absurd h
 with_group_found line words d stage.Told is h = absurd h
 with_group_found line words d stage.Group is h = absurd h
-with_group_found line words d (stage.Open l u p r) is h = absurd h
+with_group_found line words d (stage.Open o) is h = absurd h
 
 pub group_step : (line : ℕ) (words : List (List ℕ)) (d e : Draft) → IsDraft stage.Group line d → with_group line words d ≡ Ok e → Stepped line (front d d.groups) words e
 group_step line words d e is h =
@@ -189,11 +190,11 @@ witness_step line words d (Open l u p r tree) is h = absurd h
 
 pub counts_step : (line : ℕ) (words : List (List ℕ)) (d : Draft) (s : Stage) → IsDraft stage.Counts line d → IsCountsLine words s
     → Stepped line (told_lines stage.Counts d) words (at_stage s d)
-counts_step line words d (stage.Open l u p r) is h =
-    let e = at_stage (stage.Open l u p r) d in
+counts_step line words d (stage.Open o) is h =
+    let e = at_stage (stage.Open o) d in
     let none : map node_words d.tree ≡ [] = ap (map node_words) is.current.1 in
-    let after : told_lines (stage.Open l u p r) e ≡ told_lines stage.Counts d ++ words ∷ [] =
-    front_last e (Open l u p r d.tree) ∙ (λ i. front d d.groups ++ group_line (next_number d) (codes "open") ∷ sym h.0 i ∷ none i)
+    let after : told_lines (stage.Open o) e ≡ told_lines stage.Counts d ++ words ∷ [] =
+    front_last e (open_body o d.tree) ∙ (λ i. front d d.groups ++ group_line (next_number d) (codes "open") ∷ sym h.0 i ∷ none i)
     ∙ sym (append_assoc (front d d.groups) (group_line (next_number d) (codes "open") ∷ []) (words ∷ [])) in (
       after,
       record {
@@ -236,20 +237,20 @@ reject_node line words d node is h =
       },
     )
 
-open_node : (line l u p : ℕ) (r : Reason) (words : List (List ℕ)) (d : Draft) (node : Node) → IsDraft (stage.Open l u p r) line d → IsNodeLine true words node
-    → Stepped line (told_lines (stage.Open l u p r) d) words (node_draft d (stage.Open l u p r) node)
-open_node line l u p r words d node is h =
-    let e = node_draft d (stage.Open l u p r) node in
+open_node : (line : ℕ) (o : Counts) (words : List (List ℕ)) (d : Draft) (node : Node) → IsDraft (stage.Open o) line d → IsNodeLine true words node
+    → Stepped line (told_lines (stage.Open o) d) words (node_draft d (stage.Open o) node)
+open_node line o words d node is h =
+    let e = node_draft d (stage.Open o) node in
     let group = group_line (next_number d) (codes "open") in
-    let counts = body_lines (Open l u p r d.tree) in
-    let after : told_lines (stage.Open l u p r) e ≡ told_lines (stage.Open l u p r) d ++ words ∷ [] =
-    front_last e (Open l u p r (d.tree ++ node ∷ [])) ∙ (λ i. front d d.groups ++ group ∷ counts_words l u p r ∷ more_words d.tree node words h.0 i)
-    ∙ sym (append_assoc (front d d.groups) (group ∷ counts) (words ∷ [])) ∙ (λ i. sym (front_last d (Open l u p r d.tree)) i ++ words ∷ []) in (
+    let counts = body_lines (open_body o d.tree) in
+    let after : told_lines (stage.Open o) e ≡ told_lines (stage.Open o) d ++ words ∷ [] =
+    front_last e (open_body o (d.tree ++ node ∷ [])) ∙ (λ i. front d d.groups ++ group ∷ counts_words o.level o.undecided o.spent o.reason ∷ more_words d.tree node words h.0 i)
+    ∙ sym (append_assoc (front d d.groups) (group ∷ counts) (words ∷ [])) ∙ (λ i. sym (front_last d (open_body o d.tree)) i ++ words ∷ []) in (
       after,
       record {
         bounds = is.bounds;
         starts = is.starts;
-        place = last_place line (told_lines (stage.Open l u p r) d) _ words after is.place;
+        place = last_place line (told_lines (stage.Open o) d) _ words after is.place;
         current = (record { number = is.current.0.number; line = is.current.0.line }, is.current.1, All-push NodeFits d.tree node is.current.2 h.1);
       },
     )
@@ -269,12 +270,12 @@ reject_step line words d e at is h = elim (chosen (ends_tree words) _ _ _ h) [
       subst (Stepped line (told_lines stage.Reject d) words) eq (reject_node line words d node is (node_found false words node found))
 ]
 
-pub open_step : (line l u p : ℕ) (r : Reason) (words : List (List ℕ)) (d e : Draft) → d.stage ≡ stage.Open l u p r → IsDraft (stage.Open l u p r) line d → with_tree_line line words true (Open l u p r d.tree) d ≡ Ok e
-    → Stepped line (told_lines (stage.Open l u p r) d) words e
-open_step line l u p r words d e at is h = elim (chosen (ends_tree words) _ _ _ h) [
-  | inl x ↦ group_step line words (with_tree_in (Open l u p r d.tree) d) e (closed (stage.Open l u p r) line d (Open l u p r d.tree) is refl is.current.0 (is.current.1, is.current.2)) x.1
+pub open_step : (line : ℕ) (o : Counts) (words : List (List ℕ)) (d e : Draft) → d.stage ≡ stage.Open o → IsDraft (stage.Open o) line d → with_tree_line line words true (open_body o d.tree) d ≡ Ok e
+    → Stepped line (told_lines (stage.Open o) d) words e
+open_step line o words d e at is h = elim (chosen (ends_tree words) _ _ _ h) [
+  | inl x ↦ group_step line words (with_tree_in (open_body o d.tree) d) e (closed (stage.Open o) line d (open_body o d.tree) is refl is.current.0 (is.current.1, is.current.2)) x.1
   | inr x ↦
       let (node, found, made) = bind_ok (node_in true words) _ e x.1 in
-      let eq : node_draft d (stage.Open l u p r) node ≡ e = ap (λ s. node_draft d s node) (sym at) ∙ ok_same _ e made in
-      subst (Stepped line (told_lines (stage.Open l u p r) d) words) eq (open_node line l u p r words d node is (node_found true words node found))
+      let eq : node_draft d (stage.Open o) node ≡ e = ap (λ s. node_draft d s node) (sym at) ∙ ok_same _ e made in
+      subst (Stepped line (told_lines (stage.Open o) d) words) eq (open_node line o words d node is (node_found true words node found))
 ]

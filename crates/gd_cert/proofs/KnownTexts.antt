@@ -1,9 +1,9 @@
 -- Texts and line numbers that are known.
-use Rattle.std.proofs.Common.{ℕ, ℤ, pos, negsuc, ◌≡◌, refl, [], ◌∷◌, codes}
+use Rattle.std.proofs.Common.{pos, negsuc, ◌≡◌, refl, [], ◌∷◌, codes}
 use Rattle.std.specs.Fmt.{digits}
 use Rattle.gd_base.specs.declared.verdict.Reason.TheVariants as reason
 use Rattle.gd_cells.specs.declared.node.Node.TheVariants.{Split, Refuted, Left}
-use Rattle.gd_cert.specs.Certificates.{Accept, Certificate, Open, Plain, Probe, Reject}
+use Rattle.gd_cert.specs.Certificates.{Accept, Open, Plain, Probe, Reject}
 use Rattle.gd_cert.specs.Text.{first_lines, text}
 
 -- a reject of three roots, the second of them halved

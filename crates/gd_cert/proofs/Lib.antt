@@ -11,3 +11,4 @@ pub mod Whole
 pub mod Split
 pub mod Again
 pub mod Alike
+mod KnownReadings

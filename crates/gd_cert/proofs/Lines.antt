@@ -14,7 +14,7 @@ use Rattle.gd_cells.specs.declared.node.Node.TheVariants.{Split, Refuted, Left}
 use Rattle.gd_cert.proofs.Numbers.{below_again, below_spelled, both, signed_again, signed_spelled}
 use Rattle.gd_cert.specs.Bounds.{CountsFit, HeadingFits, IsDecided, IsRequirement, NodeFits, WitnessFits, is_requirement_byte}
 use Rattle.gd_cert.specs.Certificates.{Body, Accept, Heading, Plain, Probe}
-use Rattle.gd_cert.specs.Reading.{begun_by, counts_in, end_in, evidence_in, group_in, heading_in, level_in, lone, node_in, number_and_verdict_in, place_in, reason_in, share_in, sized_in, title_in, told_in, verdict_in, witness_in}
+use Rattle.gd_cert.specs.Lines.{begun_by, counts_in, counts_of, end_in, evidence_in, group_in, heading_in, level_in, lone, node_in, number_and_verdict_in, place_in, reason_in, share_in, sized_in, title_in, told_in, verdict_in, witness_in}
 use Rattle.gd_cert.specs.Text.{heading_words, node_words, reason_word, title}
 use Rattle.gd_cert.specs.Words.{and_then_read, is_requirement, is_word, number_below, number_of, onto, or_rule, signed_number, signed_numbers}
 use Rattle.gd_cert.specs.declared.rule.Rule.{Rule}
@@ -245,7 +245,7 @@ abbrev pub counts_words : ℕ → ℕ → ℕ → Reason → List (List ℕ)
 counts_words level undecided spent why = codes "at" ∷ decimal level ∷ decimal undecided ∷ decimal spent ∷ reason_word why ∷ []
 
 abbrev pub IsCountsLine : List (List ℕ) → Stage → Type 0
-IsCountsLine words (stage.Open level undecided spent why) = (words ≡ counts_words level undecided spent why) × CountsFit level undecided spent
+IsCountsLine words (stage.Open o) = (words ≡ counts_words o.level o.undecided o.spent o.reason) × CountsFit o.level o.undecided o.spent
 IsCountsLine words s = ⊥
 
 reason_found : (w : List ℕ) (r : Reason) → reason_in w ≡ Some r → w ≡ reason_word r
@@ -271,7 +271,7 @@ level_found (a ∷ b ∷ c ∷ d ∷ []) s h =
     let (y, ly) = spelled 4294967296 b rule.Number u n2 in
     let (z, lz) = spelled 4294967296 c rule.Number p n3 in
     let e = reason_found d r (or_ok (reason_in d) rule.Words r why) in
-    subst (IsCountsLine (codes "at" ∷ a ∷ b ∷ c ∷ d ∷ [])) {x = stage.Open l u p r} (ok_same (stage.Open l u p r) s made)
+    subst (IsCountsLine (codes "at" ∷ a ∷ b ∷ c ∷ d ∷ [])) {x = stage.Open (counts_of l u p r)} (ok_same (stage.Open (counts_of l u p r)) s made)
     ((λ i. codes "at" ∷ x i ∷ y i ∷ z i ∷ e i ∷ []), record { level_fits = omega (arith, lx); undecided_fits = omega (arith, ly); spent_fits = omega (arith, lz) })
 level_found (a ∷ b ∷ c ∷ d ∷ e ∷ more) s h = cc h
 
@@ -283,7 +283,7 @@ reason_again : (r : Reason) → reason_in (reason_word r) ≡ Some r
 reason_again reason.Budget = refl
 reason_again reason.Floor = refl
 
-pub counts_again : (level undecided spent : ℕ) (why : Reason) → CountsFit level undecided spent → counts_in (counts_words level undecided spent why) ≡ Ok (stage.Open level undecided spent why)
+pub counts_again : (level undecided spent : ℕ) (why : Reason) → CountsFit level undecided spent → counts_in (counts_words level undecided spent why) ≡ Ok (stage.Open (counts_of level undecided spent why))
 counts_again level undecided spent why fits =
     rw (
       reason_again why,

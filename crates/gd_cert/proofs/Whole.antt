@@ -10,7 +10,8 @@ use Rattle.gd_cert.proofs.Found.{IsDraft, Stepped, counts_step, group_step, last
 use Rattle.gd_cert.proofs.Lines.{bind_ok, counts_found, heading_found, ok_same, passed, share_found, title_found, told_found, witness_found}
 use Rattle.gd_cert.specs.Bounds.{BodyFits, IsInBounds}
 use Rattle.gd_cert.specs.Certificates.{Certificate}
-use Rattle.gd_cert.specs.Reading.{Draft, at_stage, bodies_of, certificate_in, counts_in, drafted, drafted_from, empty_draft, heading_in, last_fault, lines_of, on_line, reading, share_in, title_in, told_in, unless, with_body, with_line, with_line_at, witness_in}
+use Rattle.gd_cert.specs.Lines.{counts_in, heading_in, share_in, title_in, told_in, witness_in}
+use Rattle.gd_cert.specs.Reading.{Draft, at_stage, bodies_of, certificate_in, drafted, drafted_from, empty_draft, last_fault, lines_of, on_line, reading, unless, with_body, with_line, with_line_at}
 use Rattle.gd_cert.specs.Text.{first_lines, groups_lines, heading_words, line_text, lines, spaced, text, title}
 use Rattle.gd_cert.specs.Words.{and_then_read, pieces, words_of}
 use Rattle.gd_cert.specs.declared.fault.CertFault.{CertFault}
@@ -94,7 +95,7 @@ step_at stage.Counts line words d e at is h =
     let (s, found, made) = bind_ok (counts_in words) _ e h in
     subst (Stepped line (told_lines stage.Counts d) words) (ok_same (at_stage s d) e made) (counts_step line words d s is (counts_found words s found))
 step_at stage.Reject line words d e at is h = reject_step line words d e at is h
-step_at (stage.Open l u p r) line words d e at is h = open_step line l u p r words d e at is h
+step_at (stage.Open o) line words d e at is h = open_step line o words d e at is h
 step_at stage.Done line words d e at is h = cc h
 
 step : (line : ℕ) (words : List (List ℕ)) (d e : Draft) → IsDraft d.stage line d → with_line line words d ≡ Ok e → Stepped line (told_lines d.stage d) words e
@@ -127,7 +128,7 @@ ended stage.Group piece d e h = cc h
 ended stage.Witness piece d e h = cc h
 ended stage.Counts piece d e h = cc h
 ended stage.Reject piece d e h = cc h
-ended (stage.Open l u p r) piece d e h = cc h
+ended (stage.Open o) piece d e h = cc h
 
 -- what was read
 pub record Spelled (before : List ℕ) (pieces_left : List (List ℕ)) (d : Draft) : Type 0 where

@@ -3,6 +3,7 @@ pub mod Text
 pub mod Bounds
 pub mod Rules
 pub mod Words
+pub mod Lines
 pub mod Reading
 pub mod Sizes
 pub mod Drafts

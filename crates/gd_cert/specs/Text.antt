@@ -20,9 +20,15 @@ spaced (word ∷ next ∷ words) = word ++ 32 ∷ spaced (next ∷ words)
 abbrev pub line_text : List (List ℕ) → List ℕ
 line_text words = spaced words ++ 10 ∷ []
 
--- the first line: the name of the format and its version
+-- the name of the format and its version, and the first line, which tells both
+abbrev pub format : List ℕ
+format = codes "gdcert"
+
+abbrev pub version : List ℕ
+version = codes "1"
+
 abbrev pub title : List (List ℕ)
-title = codes "gdcert" ∷ codes "1" ∷ []
+title = format ∷ version ∷ []
 
 abbrev pub heading_words : Heading → List (List ℕ)
 heading_words Plain = codes "plain" ∷ []

@@ -1,17 +1,19 @@
 // A certificate as far as its lines were read.
 ghost use Rattle.std.specs.Prelude.{◌≡◌, OnOk, false, true, map};
-ghost use Rattle.gd_cert.specs.Certificates.{body_of, certificate_of};
+ghost use Rattle.gd_cert.specs.Certificates.{Reject, body_of, certificate_of};
 ghost use Rattle.gd_cert.specs.Drafts.{Takes, draft_of, texts};
-ghost use Rattle.gd_cert.specs.Reading.{certificate_in, empty_draft, last_fault, lines_of, with_body, with_counts, with_group, with_heading, with_line, with_node, with_share, with_title, with_told, with_witness, without_tree};
+ghost use Rattle.gd_cert.specs.Lines.{open_body};
+ghost use Rattle.gd_cert.specs.Reading.{certificate_in, empty_draft, last_fault, lines_of, with_body, with_counts, with_group, with_heading, with_line, with_node, with_share, with_title, with_told, with_tree_line, with_witness, without_tree};
 ghost use Rattle.gd_cert.specs.declared.cert.CertGroup.{CertGroup};
 
 use crate::cert::{Cert, CertBody, CertGroup, Head};
 use crate::line::{
-    is_behind_tree, is_title, read_counts, read_group, read_heading, read_node, read_share,
-    read_told, read_witness,
+    is_behind_tree, read_counts, read_group, read_heading, read_node, read_share, read_told,
+    read_witness,
 };
 use crate::rule::{LineFault, Rule};
-use crate::stage::Stage;
+use crate::stage::{Counts, Stage};
+use crate::title::is_title;
 use gd_base::Memory;
 use gd_cells::Node;
 use std::alloc::Global;
@@ -63,32 +65,8 @@ impl CertDraft {
             Stage::Group => self.take_group(line, words),
             Stage::Witness => self.take_witness(alloc, words),
             Stage::Counts => self.take_counts(words),
-            Stage::Reject => {
-                if !is_behind_tree(words) {
-                    return self.take_node(false, words);
-                }
-                let tree = self.whole_tree(alloc);
-                self.take_behind(CertBody::Reject { tree }, line, words)
-            }
-            Stage::Open {
-                level,
-                undecided,
-                spent,
-                reason,
-            } => {
-                if !is_behind_tree(words) {
-                    return self.take_node(true, words);
-                }
-                let tree = self.whole_tree(alloc);
-                let body = CertBody::StillOpen {
-                    level,
-                    undecided,
-                    spent,
-                    reason,
-                    tree,
-                };
-                self.take_behind(body, line, words)
-            }
+            Stage::Reject => self.take_reject_line(alloc, line, words),
+            Stage::Open(counts) => self.take_open_line(alloc, line, words, counts),
             Stage::Done => Err(LineFault::Rule(Rule::Behind)),
         }
     }
@@ -148,6 +126,44 @@ impl CertDraft {
     {
         self.stage = read_counts(words)?;
         Ok(())
+    }
+
+    fn take_reject_line(
+        &mut self,
+        alloc: Global,
+        line: u32,
+        words: &[&[u8]],
+    ) -> Result<(), LineFault>
+        ensures { Takes (draft_of self.new) result (with_tree_line line (texts words.now) false (Reject self.old.tree.items) (draft_of self.old)) }
+    {
+        if !is_behind_tree(words) {
+            return self.take_node(false, words);
+        }
+        let tree = self.whole_tree(alloc);
+        self.take_behind(CertBody::Reject { tree }, line, words)
+    }
+
+    fn take_open_line(
+        &mut self,
+        alloc: Global,
+        line: u32,
+        words: &[&[u8]],
+        counts: Counts,
+    ) -> Result<(), LineFault>
+        ensures { Takes (draft_of self.new) result (with_tree_line line (texts words.now) true (open_body counts self.old.tree.items) (draft_of self.old)) }
+    {
+        if !is_behind_tree(words) {
+            return self.take_node(true, words);
+        }
+        let tree = self.whole_tree(alloc);
+        let body = CertBody::StillOpen {
+            level: counts.level,
+            undecided: counts.undecided,
+            spent: counts.spent,
+            reason: counts.reason,
+            tree,
+        };
+        self.take_behind(body, line, words)
     }
 
     // The lines of the tree, which is whole.

@@ -13,6 +13,7 @@ mod read;
 mod read_tests;
 mod rule;
 mod stage;
+mod title;
 mod word;
 mod write;
 

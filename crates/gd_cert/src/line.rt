@@ -4,13 +4,14 @@ ghost use Rattle.std.specs.Prelude.{◌≡◌, ◌+◌, ◌<◌, ◌^◌, true};
 ghost use Rattle.gd_cert.specs.Bounds.{is_requirement_byte};
 ghost use Rattle.gd_cert.specs.Certificates.{body_of, heading_of};
 ghost use Rattle.gd_cert.specs.Drafts.{Answers, texts};
-ghost use Rattle.gd_cert.specs.Reading.{counts_in, end_in, ends_tree, evidence_in, group_in, heading_in, level_in, lone, node_in, number_and_verdict_in, place_in, probe_in, reason_in, share_in, sized_in, title_in, told_in, verdict_in, witness_in};
+ghost use Rattle.gd_cert.specs.Lines.{counts_in, end_in, ends_tree, evidence_in, group_in, heading_in, level_in, lone, node_in, number_and_verdict_in, place_in, probe_in, reason_in, share_in, sized_in, told_in, verdict_in, witness_in};
 ghost use Rattle.gd_cert.specs.Words.{is_requirement, is_word};
 
 use crate::cert::{CertBody, Head};
 use crate::number::{read_below, read_number, read_signed_all};
 use crate::rule::{LineFault, Rule};
-use crate::stage::Stage;
+use crate::stage::{Counts, Stage};
+use crate::word::is;
 use gd_base::limits::{BUDGET, TOLERANCE};
 use gd_base::{Name2, Reason};
 use gd_cells::{Evidence, Node};
@@ -20,21 +21,8 @@ use std::str;
 // The greatest number of groups that is told.
 const GROUPS: u64 = 300_000;
 
-fn is(word: &[u8], other: &[u8]) -> bool
-    ensures { result ≡ is_word word.now other.now }
-{
-    word == other
-}
-
-/// Whether the words are `gdcert 1`.
-pub(crate) fn is_title(words: &[&[u8]]) -> bool
-    ensures { result ≡ title_in (texts words.now) }
-{
-    match words {
-        [name, version] => is(name, b"gdcert".as_slice()) && is(version, b"1".as_slice()),
-        _ => false,
-    }
-}
+// The most bytes of a requirement's name.
+const NAME_BYTES: usize = 48;
 
 /// `plain`, or `probe NAME T`.
 pub(crate) fn read_heading(alloc: Global, words: &[&[u8]]) -> Result<Head, LineFault>
@@ -80,7 +68,7 @@ fn read_probe(alloc: Global, name: &[u8], tolerance: &[u8]) -> Result<Head, Line
 fn is_requirement_name(word: &[u8]) -> bool
     ensures { result ≡ is_requirement word.now }
 {
-    1 <= word.len() && word.len() <= 48 && are_bytes_of_requirement(word)
+    1 <= word.len() && word.len() <= NAME_BYTES && are_bytes_of_requirement(word)
 }
 
 fn are_bytes_of_requirement(word: &[u8]) -> bool
@@ -252,12 +240,12 @@ fn read_level(words: &[&[u8]]) -> Result<Stage, Rule>
     let level = read_number(level).ok_or(Rule::Number)?;
     let undecided = read_number(undecided).ok_or(Rule::Number)?;
     let spent = read_number(spent).ok_or(Rule::Number)?;
-    Ok(Stage::Open {
+    Ok(Stage::Open(Counts {
         level,
         undecided,
         spent,
         reason,
-    })
+    }))
 }
 
 fn read_reason(word: &[u8]) -> Option<Reason>

@@ -1,6 +1,7 @@
 // Small certificates and their first faults, worked by hand from the grammar of docs/FORMATS.md.
 use crate::{CertBody, CertFault, CertReadFault, Head, read_cert};
 use gd_base::Reason;
+use gd_base::limits::FILE_BYTES;
 use gd_cells::{Evidence, Node};
 use std::alloc::{AllocError, Global};
 
@@ -17,6 +18,9 @@ fn with_head(alloc: Global, lines: &[u8]) -> Result<Vec<u8>, AllocError> {
 
 // The line and code of a file's fault.
 fn refused(alloc: Global, file: &[u8]) -> Option<(u32, u32)> {
+    if file.len() > FILE_BYTES {
+        return None;
+    }
     match read_cert(alloc, file) {
         Err(CertReadFault::Cert(CertFault { line, code })) => Some((line, code)),
         _ => None,

@@ -1,6 +1,15 @@
 // Which line of a certificate comes next.
 use gd_base::Reason;
 
+/// What the line `at` of an open group tells: a level, its undecided cells, those that were split before, and why the search stopped.
+#[derive(Clone, Copy, Debug)]
+pub(crate) struct Counts {
+    pub(crate) level: u32,
+    pub(crate) undecided: u32,
+    pub(crate) spent: u32,
+    pub(crate) reason: Reason,
+}
+
 /// Which line comes next.
 #[derive(Clone, Copy, Debug)]
 pub(crate) enum Stage {
@@ -21,12 +30,7 @@ pub(crate) enum Stage {
     /// A line of a reject's tree, or one that ends it.
     Reject,
     /// A line of an open group's tree, or one that ends it.
-    Open {
-        level: u32,
-        undecided: u32,
-        spent: u32,
-        reason: Reason,
-    },
+    Open(Counts),
     /// None: `end` was read.
     Done,
 }

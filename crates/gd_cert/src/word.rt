@@ -1,13 +1,20 @@
 // Bytes that are parted by separators.
 ghost use Rattle.std.specs.Prelude.{◌≡◌, OnOk};
 ghost use Rattle.gd_cert.specs.Drafts.{CutsAt, TellsAlike, texts};
-ghost use Rattle.gd_cert.specs.Words.{words_of};
+ghost use Rattle.gd_cert.specs.Words.{is_word, words_of};
 
 use gd_base::Memory;
 use memchr::memchr;
 
 // The most words of a line: `w`, a root and 12 numbers.
 const MOST_WORDS: usize = 14;
+
+/// Whether a word is this one.
+pub(crate) fn is(word: &[u8], other: &[u8]) -> bool
+    ensures { result ≡ is_word word.now other.now }
+{
+    word == other
+}
 
 /// What stands before the first separator, and what stands behind it.
 pub(crate) fn cut(bytes: &[u8], separator: u8) -> Option<(&[u8], &[u8])>

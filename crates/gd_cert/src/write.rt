@@ -7,6 +7,7 @@ ghost use Rattle.gd_cert.specs.Text.{body_lines, groups_lines, heading_words, li
 ghost use Rattle.gd_cert.specs.declared.cert.CertGroup.{CertGroup};
 
 use crate::cert::{Cert, CertBody, CertGroup, Head};
+use crate::title::put_title;
 use gd_base::{Memory, Reason};
 use gd_cells::Node;
 use itoa::{Buffer, Integer};
@@ -168,7 +169,8 @@ fn put_groups(text: &mut Vec<u8>, groups: &[CertGroup]) -> Result<(), Memory>
 pub fn write_cert(alloc: Global, cert: &Cert) -> Result<Vec<u8>, Memory>
     ensures { IfOk result (λ v. v.items ≡ text (certificate_of cert.now)) }
 {
-    let mut text = Vec::from_slice(alloc, b"gdcert 1\n")?;
+    let mut text = Vec::new(alloc);
+    put_title(&mut text)?;
     put_heading(&mut text, &cert.head)?;
     put_count(&mut text, b"share", cert.share)?;
     put_count(&mut text, b"groups", cert.told)?;

@@ -1,24 +1,18 @@
 -- The groups that are still to be judged, each with its task and its first line.
 use Rattle.std.proofs.Common.{arith, ◌≡◌, refl, sym, ap, ◌∙◌, subst, ℕ, ◌+◌, ◌<◌, ◌≤◌, ◌^◌, Option, Some, None, List, [], ◌∷◌, length, map, ◌⊎◌, inl, inr, length-append, codes}
 use Rattle.std.proofs.lemmas.List.Elements.{All-head, All-tail}
-use Rattle.std.specs.List.{All, flat_map}
+use Rattle.std.specs.List.{All}
 use Rattle.gd_cells.specs.Meaning.{Questions}
+use Rattle.gd_cert.proofs.Sizes.{lines_are_few}
 use Rattle.gd_cert.specs.Bounds.{BodyFits, IsInBounds}
 use Rattle.gd_cert.specs.Certificates.{Body, Certificate, body_of, certificate_of}
-use Rattle.gd_cert.specs.Text.{KeepsLines, body_lines, first_lines, groups_lines, line_text, lines, spaced, text}
+use Rattle.gd_cert.specs.Text.{KeepsLines, body_lines, first_lines, groups_lines, text}
 use Rattle.gd_cert.specs.declared.cert.Cert.{Cert}
 use Rattle.gd_cert.specs.declared.cert.CertGroup.{CertGroup}
 use Rattle.gd_cert.specs.declared.fault.CertFault.{CertFault}
 use Rattle.gd_check.specs.Wrong.{or_else, wrong_bodies, wrong_body}
 
--- ---- each line of a text has a byte at least
-line_short : (words : List (List ℕ)) → 1 ≤ length (line_text words)
-line_short words = omega (arith, length-append (spaced words) (10 ∷ []))
-
-lines_short : (ls : List (List (List ℕ))) → length ls ≤ length (flat_map line_text ls)
-lines_short [] = omega arith
-lines_short (words ∷ ls) = omega (arith, line_short words, length-append (line_text words) (flat_map line_text ls), lines_short ls)
-
+-- ---- the lines of a text
 -- how many lines some groups have
 abbrev pub lines_count : List Body → ℕ
 lines_count [] = 0
@@ -29,8 +23,7 @@ groups_counted number [] = refl
 groups_counted number (b ∷ bs) = omega (arith, length-append (body_lines b) (groups_lines (number + 1) bs), groups_counted (number + 1) bs)
 
 text_room : (c : Certificate) → 5 + lines_count c.groups ≤ length (text c)
-unfolding text
-text_room c = omega (arith, lines_short (lines c), length-append (groups_lines 1 c.groups) ((codes "end" ∷ []) ∷ []), groups_counted 1 c.groups)
+text_room c = omega (arith, lines_are_few c, length-append (groups_lines 1 c.groups) ((codes "end" ∷ []) ∷ []), groups_counted 1 c.groups)
 
 -- ---- the groups that are left
 abbrev pub bodies : List CertGroup → List Body

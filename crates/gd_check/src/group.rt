@@ -1,7 +1,7 @@
 // The groups of a certificate.
 ghost use Rattle.std.specs.Prelude.{◌≡◌, ◌<◌, ◌≤◌, ◌+◌, ◌^◌, IfOk, None, Some, cond, filter, length, nat_eq};
-ghost use Rattle.gd_cert.specs.Bounds.{BodyFits};
 ghost use Rattle.gd_cells.specs.Meaning.{Questions};
+ghost use Rattle.gd_cert.specs.Bounds.{BodyFits};
 ghost use Rattle.gd_cert.specs.Certificates.{Open, body_of};
 ghost use Rattle.gd_cert.specs.Reading.{fault};
 ghost use Rattle.gd_cert.specs.Text.{body_lines};

@@ -49,6 +49,10 @@ impl Task for Toy {
         3
     }
 
+    fn points(&self) -> usize {
+        1
+    }
+
     fn split(&self, cell: &Cell) -> (Cell, Cell) {
         split_cell(cell, 0)
     }

@@ -1,5 +1,5 @@
 // The answer to `flat`: the verdict of flatness, with its certificate where one is wanted.
-ghost use Rattle.std.specs.Prelude.{◌≡◌, ◌<◌, ◌≤◌, ℕ, List, Ok, IfOk, length};
+ghost use Rattle.std.specs.Prelude.{◌≡◌, ◌<◌, ℕ, List, Ok, IfOk, length};
 ghost use Rattle.gd_cert.specs.Certificates.{body_of, certificate_of};
 ghost use Rattle.gd_cert.specs.Text.{text};
 ghost use Rattle.gd_check.specs.Written.{body_of_end};
@@ -11,18 +11,13 @@ ghost use Rattle.gd_run.specs.Commands.{flat_of};
 ghost use Rattle.gd_run.specs.Lines.{answer_in};
 ghost use Rattle.gd_run.specs.Reports.{OnReport};
 ghost use Rattle.gd_search.specs.Outcomes.{end_of};
-ghost use Rattle.gd_search.specs.Verdict.{IsVerdict};
 
 use crate::command::FlatCommand;
 use crate::report::{NamedFile, Report, Stop, only_line};
 use crate::texts::{input_line, outcome_line};
 use gd_base::{Memory, ReadFault};
-use gd_cells::{
-    Task, show_centre_in_range, show_centre_names_place, show_first_is_short, show_first_refutes,
-    show_grid, show_none_refutes,
-};
 use gd_cert::{Cert, CertBody, CertGroup, Head, write_cert};
-use gd_form::{FormTask, flat_task};
+use gd_form::flat_task;
 use gd_points::{PointTable, read_points};
 use gd_search::{Outcome, search};
 use std::alloc::{AllocError, Global};
@@ -81,23 +76,10 @@ fn cert_of_outcome(alloc: Global, outcome: Outcome, budget: u32) -> Result<Cert,
     })
 }
 
-// The text of the certificate for how the search of a task ended that had this budget.
-fn certificate_text(
-    alloc: Global,
-    task: &FormTask<'_>,
-    outcome: Outcome,
-    budget: u32,
-) -> Result<Vec<u8>, Memory>
-    requires budget { budget ≤ 1000000 }
-    requires verdict { IsVerdict (questions_of task.now.rows.now.items task.now.tolerance) budget (end_of outcome) }
-    ensures { IfOk result (λ bytes. bytes.items ≡ text (certificate_of_end (questions_of task.now.rows.now.items task.now.tolerance) budget (end_of outcome))) }
+// The text of the certificate for how a search of flatness ended that had this budget.
+fn certificate_text(alloc: Global, outcome: Outcome, budget: u32) -> Result<Vec<u8>, Memory>
+    ensures { IfOk result (λ bytes. (rows : List Row) (tolerance : ℕ) → bytes.items ≡ text (certificate_of_end (questions_of rows tolerance) budget (end_of outcome))) }
 {
-    show_grid(task);
-    show_first_refutes(task);
-    show_none_refutes(task);
-    show_first_is_short(task);
-    show_centre_in_range(task);
-    show_centre_names_place(task);
     let cert = cert_of_outcome(alloc, outcome, budget)?;
     write_cert(alloc, &cert)
 }
@@ -119,7 +101,7 @@ fn judge_table<'a, R: Threads + Sync>(
         None => None,
         Some(name) => Some(NamedFile {
             name,
-            bytes: certificate_text(alloc, &task, outcome, flat.budget)?,
+            bytes: certificate_text(alloc, outcome, flat.budget)?,
         }),
     };
     Ok(Report { line, file })

@@ -1,11 +1,48 @@
-// Whole runs over memory: ample memory never gives the status of want of memory.
+// Whole runs over memory, in which each call fails in turn. Ample memory never gives the status of want of memory.
 use crate::run;
-use gd_base::Name2;
+use gd_base::{Memory, Name2};
 use gd_world::{MemShelf, MemSink};
+use std::alloc::Global;
 use std::test::Fail;
 
 const SADDLE: &str =
     "feature,group,x,y,z\ns,0,0,0,0\ns,0,1000,0,0\ns,0,0,1000,0\ns,0,1000,1000,10\n";
+
+const CORNER: &str = "feature,group,x,y,z\na,0,0,0,0\na,0,1000,0,0\na,0,0,1000,0\na,0,0,0,1000\n";
+
+const CERTIFICATE: &str =
+    "gdcert 1\nplain\nshare 5\ngroups 1\ngroup 1 reject\nr 1 2 1\nr 1 3 1\nr 1 4 1\nend\n";
+
+// A part of four points, or of the corner of a cube, under `p.csv`, and what `c` holds where there is something.
+fn shelf_of(alloc: Global, points: &str, certificate: &str) -> Result<MemShelf, Memory> {
+    let mut shelf = MemShelf::new(alloc);
+    let bytes = Vec::from_slice(alloc, points.as_bytes())?;
+    shelf.add(Name2::of(alloc, "p.csv")?, bytes)?;
+    if !certificate.is_empty() {
+        let bytes = Vec::from_slice(alloc, certificate.as_bytes())?;
+        shelf.add(Name2::of(alloc, "c")?, bytes)?;
+    }
+    Ok(shelf)
+}
+
+// What a name holds, by its first entry: nothing where it has none.
+fn held<'a>(shelf: &'a MemShelf, name: &str) -> &'a [u8] {
+    for file in &shelf.files {
+        if file.0.text() == name {
+            return file.1.as_slice();
+        }
+    }
+    b""
+}
+
+// The words of a line.
+fn words_of(alloc: Global, line: &str) -> Result<Vec<String>, Memory> {
+    let mut words = Vec::new(alloc);
+    for word in line.split(' ') {
+        words.push(String::from_str(alloc, word)?)?;
+    }
+    Ok(words)
+}
 
 #[test]
 fn runs_over_memory(rt: HostRuntime) -> Result<(), Fail> {
@@ -42,19 +79,15 @@ fn runs_over_memory(rt: HostRuntime) -> Result<(), Fail> {
             "gdteval: cannot read p.csv\n",
         ),
         ("flat p.csv 10 1000", 0, 1, 6, "accept level 0 direc"),
+        ("flat p.csv 4 10000", 0, 1, 6, "reject l"),
+        ("flat p.csv 4 3", 0, 1, 6, "open budget level 2 "),
         ("flat q.csv 10 1000", 0, 1, 6, "gdteval: cann"),
         ("flat p.csv 10", 0, 0, 4, "gdteval: wrong words\n"),
+        ("flat p.csv 10", 0, 1, 6, "gdteval: w"),
     ];
     for (line, load, put, status, text) in cases {
-        let mut words = Vec::new(alloc);
-        for word in line.split(' ') {
-            words.push(String::from_str(alloc, word)?)?;
-        }
-        let mut shelf = MemShelf::new(alloc);
-        shelf.add(
-            Name2::of(alloc, "p.csv")?,
-            Vec::from_slice(alloc, SADDLE.as_bytes())?,
-        )?;
+        let words = words_of(alloc, line)?;
+        let mut shelf = shelf_of(alloc, SADDLE, "")?;
         shelf.fail.push(load)?;
         let mut out = MemSink::new(alloc);
         out.fail.push(put)?;
@@ -64,6 +97,58 @@ fn runs_over_memory(rt: HostRuntime) -> Result<(), Fail> {
             out.bytes.as_slice(),
             text.as_bytes(),
             "{line}, load {load}, put {put}"
+        );
+    }
+    Ok(())
+}
+
+#[test]
+fn calls_fail_in_turn(rt: HostRuntime) -> Result<(), Fail> {
+    let alloc = rt.alloc();
+    // Words, what `c` holds before, the call of the shelf that fails and how many bytes it then leaves, the put that fails,
+    // the status, what the sink holds, and what `c` holds after.
+    let flat = "flat p.csv 10 5 c";
+    let check = "checkflat p.csv 10 c";
+    let unread = "gdteval: cannot read p.csv\n";
+    let cases = [
+        (flat, "", (0, 0, 0), 1, "reject leaves 3\n", CERTIFICATE),
+        (flat, "old", (0, 0, 0), 1, "reject leaves 3\n", CERTIFICATE),
+        (flat, "old", (1, 3, 0), 5, unread, "old"),
+        (flat, "old", (2, 0, 0), 6, "", ""),
+        (flat, "old", (2, 3, 0), 6, "", "gdc"),
+        (flat, "old", (2, 1000, 0), 6, "", CERTIFICATE),
+        (flat, "old", (0, 0, 1), 6, "reject l", CERTIFICATE),
+        (check, CERTIFICATE, (0, 0, 0), 0, "valid\n", CERTIFICATE),
+        (check, CERTIFICATE, (1, 0, 0), 5, unread, CERTIFICATE),
+        (
+            check,
+            CERTIFICATE,
+            (2, 0, 0),
+            5,
+            "gdteval: cannot read c\n",
+            CERTIFICATE,
+        ),
+        (check, CERTIFICATE, (0, 0, 1), 6, "val", CERTIFICATE),
+        (check, "", (0, 0, 0), 5, "gdteval: cannot read c\n", ""),
+        (check, "x", (0, 0, 0), 8, "invalid line 1 code 45\n", "x"),
+        (check, "x", (0, 0, 1), 6, "invalid lin", "x"),
+    ];
+    for (line, before, (call, part, put), status, text, after) in cases {
+        let words = words_of(alloc, line)?;
+        let mut shelf = shelf_of(alloc, CORNER, before)?;
+        shelf.fail.push(call)?;
+        shelf.part = part;
+        let mut out = MemSink::new(alloc);
+        out.fail.push(put)?;
+        let ended = run(&rt, alloc, &words, &mut shelf, &mut out);
+        let case = (call, part, put);
+        assert_eq!(rt; ended.0, status, "{line}, {case:?}");
+        assert_eq!(rt; out.bytes.as_slice(), text.as_bytes(), "{line}, {case:?}");
+        assert_eq!(rt; held(&shelf, "c"), after.as_bytes(), "{line}, {case:?}");
+        assert_eq!(rt;
+            held(&shelf, "p.csv"),
+            CORNER.as_bytes(),
+            "{line}, {case:?}"
         );
     }
     Ok(())

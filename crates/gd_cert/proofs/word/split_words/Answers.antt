@@ -1,4 +1,4 @@
-use Rattle.std.proofs.Common.{arith, inl, inr, rules}
+use Rattle.std.proofs.Common.{inl, inr, rules}
 use Rattle.gd_cert.proofs.Alike.{words_end}
 use Rattle.gd_cert.proofs.word.split_words.Goals as goal
 use Rattle.gd_cert.proofs.word.split_words.Goals.{else-loop-rest-test, then-loop-rest-test+in_default}
