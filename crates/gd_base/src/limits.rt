@@ -1,4 +1,4 @@
-//! The limits of the input. Lengths are in units of 0.1 micrometre.
+//! The limits of input and certificates. Lengths are in units of 0.1 micrometre.
 
 /// The greatest size of a coordinate, in units: 0.8 metre to each side.
 pub const COORDINATE: i64 = 8_000_000;
@@ -20,3 +20,9 @@ pub const FILE_BYTES: usize = 134_217_728;
 
 /// The most bytes of a name.
 pub const NAME_BYTES: usize = 32;
+
+/// The most groups that a certificate tells of.
+pub const GROUPS: u32 = 300_000;
+
+/// The most bytes of the name of a requirement in a certificate.
+pub const REQUIREMENT_BYTES: usize = 48;

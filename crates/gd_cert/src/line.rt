@@ -12,17 +12,11 @@ use crate::number::{read_below, read_number, read_signed_all};
 use crate::rule::{LineFault, Rule};
 use crate::stage::{Counts, Stage};
 use crate::word::is;
-use gd_base::limits::{BUDGET, TOLERANCE};
+use gd_base::limits::{BUDGET, GROUPS, REQUIREMENT_BYTES, TOLERANCE};
 use gd_base::{Name2, Reason};
 use gd_cells::{Evidence, Node};
 use std::alloc::Global;
 use std::str;
-
-// The greatest number of groups that is told.
-const GROUPS: u64 = 300_000;
-
-// The most bytes of a requirement's name.
-const NAME_BYTES: usize = 48;
 
 /// `plain`, or `probe NAME T`.
 pub(crate) fn read_heading(alloc: Global, words: &[&[u8]]) -> Result<Head, LineFault>
@@ -68,7 +62,7 @@ fn read_probe(alloc: Global, name: &[u8], tolerance: &[u8]) -> Result<Head, Line
 fn is_requirement_name(word: &[u8]) -> bool
     ensures { result ≡ is_requirement word.now }
 {
-    1 <= word.len() && word.len() <= NAME_BYTES && are_bytes_of_requirement(word)
+    1 <= word.len() && word.len() <= REQUIREMENT_BYTES && are_bytes_of_requirement(word)
 }
 
 fn are_bytes_of_requirement(word: &[u8]) -> bool
@@ -95,7 +89,7 @@ pub(crate) fn read_share(words: &[&[u8]]) -> Result<u32, Rule>
 pub(crate) fn read_told(words: &[&[u8]]) -> Result<u32, Rule>
     ensures { result ≡ told_in (texts words.now) }
 {
-    let told = read_sized(b"groups".as_slice(), GROUPS, words)?;
+    let told = read_sized(b"groups".as_slice(), u64::from(GROUPS), words)?;
     if told == 0 { Err(Rule::Head) } else { Ok(told) }
 }
 
