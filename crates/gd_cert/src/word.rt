@@ -1,5 +1,6 @@
 // Bytes that are parted by separators.
-ghost use Rattle.std.specs.Prelude.{◌≡◌, OnOk};
+ghost use Rattle.std.specs.Prelude.{◌≡◌, ◌==◌, OnOk};
+ghost use Rattle.std.specs.List.{position};
 ghost use Rattle.gd_cert.specs.Drafts.{CutsAt, TellsAlike, texts};
 ghost use Rattle.gd_cert.specs.Words.{is_word, words_of};
 
@@ -26,6 +27,23 @@ pub(crate) fn cut(bytes: &[u8], separator: u8) -> Option<(&[u8], &[u8])>
     }
 }
 
+// The place of the first space. Words are short, so a plain loop finds it sooner than `memchr`.
+fn space_in(line: &[u8]) -> Option<usize>
+    ensures { result ≡ position (λ b. b == 32) line.now }
+{
+    line.iter().position(|byte| *byte == b' ')
+}
+
+// The first word of a line, and what stands behind its space.
+fn cut_word(line: &[u8]) -> Option<(&[u8], &[u8])>
+    ensures { CutsAt 32 line.now result }
+{
+    match space_in(line) {
+        None => None,
+        Some(at) => Some((&line[..at], &line[at + 1..])),
+    }
+}
+
 /// Replaces `words` by the words of a line, which single spaces part.
 /// What follows the 14th is left as one word, since no line has more than 14.
 pub(crate) fn split_words<'a>(line: &'a [u8], words: &mut Vec<&'a [u8]>) -> Result<(), Memory>
@@ -34,7 +52,7 @@ pub(crate) fn split_words<'a>(line: &'a [u8], words: &mut Vec<&'a [u8]>) -> Resu
     words.clear();
     let mut rest = line;
     while words.len() < MOST_WORDS {
-        let Some((word, more)) = cut(rest, b' ') else {
+        let Some((word, more)) = cut_word(rest) else {
             break;
         };
         words.push(word)?;
