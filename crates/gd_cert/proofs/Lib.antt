@@ -12,3 +12,4 @@ pub mod Split
 pub mod Again
 pub mod Alike
 mod KnownReadings
+pub mod Digits

@@ -1,0 +1,9 @@
+use Rattle.std.proofs.Common.{◌≡◌, ◌<◌, ◌^◌, drop}
+use Rattle.gd_cert.specs.Drafts.{digits_from}
+use Rattle.gd_cert.proofs.number.read_digits.Given as goal
+
+abbrev pub invariant-loop-byte : goal.invariant-loop-byte
+invariant-loop-byte l = record {
+  left : digits_from l.number (drop l.byte-index l.word) ≡ digits_from 0 l.word;
+  small : l.number < 10 ^ l.byte-index;
+}
