@@ -7,13 +7,8 @@ use Rattle.std.proofs.lemmas.Option.{cond_some}
 use Rattle.std.proofs.lemmas.List.{take_all, length-drop}
 use Rattle.std.proofs.lemmas.List.Elements.{All-from_get_or}
 use Rattle.std.proofs.lemmas.List.Splits.{slice_split_first, slice_split_none}
-use Rattle.std.proofs.lemmas.List.Sums.{fails_before_first, position_or_len_is}
-use Rattle.memchr.specs.Find.{IsFirstByte, is_byte}
+use Rattle.std.proofs.lemmas.List.Sums.{fails_before_first}
 use Rattle.gd_cert.specs.Words.{pieces}
-
-not_true : (b : Bool) → (b ≡ true → ⊥) → b ≡ false
-not_true true h = absurd (h refl)
-not_true false h = refl
 
 uncut : (separator : ℕ) (bytes : List ℕ) → ((k : ℕ) → k < length bytes → (get_or bytes k 0 == separator) ≡ false) → pieces separator bytes ≡ bytes ∷ []
 uncut separator bytes none = slice_split_none (λ b. b == separator) bytes (All-from_get_or (λ b. (b == separator) ≡ false) bytes 0 none)
@@ -31,14 +26,6 @@ cut_at separator bytes at low place =
     let split = slice_split_first p bytes 0 (omega (arith, low, place)) in
     (rw all (rw place at split), rw all (omega (arith, low)))
 
--- ---- at the byte that `memchr` found
-pub cut_none : (separator : ℕ) (bytes : List ℕ) → IsFirstByte (is_byte separator) bytes None → pieces separator bytes ≡ bytes ∷ []
-cut_none separator bytes none = uncut separator bytes (λ k lt. not_true _ (λ e. none k (omega arith) lt e))
-
-pub cut_some : (separator : ℕ) (bytes : List ℕ) (at : ℕ) → IsFirstByte (is_byte separator) bytes (Some at) → CutAt separator bytes at
-cut_some separator bytes at first =
-    cut_at separator bytes at (omega (arith, first.0.high)) (position_or_len_is (λ b. b == separator) bytes at 0 (omega (arith, first.0.high)) (λ k lt. not_true _ (λ e. first.0.before k (omega arith) lt e)) (λ _. first.1))
-
 -- ---- at the first place that a loop found
 found_at : (n length : ℕ) (at : ℕ) → cond (nat_lt n length) (Some n) None ≡ Some at → (n < length) × (n ≡ at)
 found_at n length at h = let (passed, is) = cond_some (nat_lt n length) n at h in (grind (arith, nat_tests), is)
@@ -46,12 +33,12 @@ found_at n length at h = let (passed, is) = cond_some (nat_lt n length) n at h i
 found_nowhere : (n length : ℕ) → cond (nat_lt n length) (Some n) None ≡ None → length ≤ n
 found_nowhere n length h = elim (nat_lt n length) as (λ v. nat_lt n length ≡ v → cond v (Some n) None ≡ None → length ≤ n) [ true ↦ λ e f. cc | false ↦ λ e f. grind (arith, nat_tests) ] refl h
 
-pub uncut_line : (separator : ℕ) (bytes : List ℕ) → position (λ b. b == separator) bytes ≡ None → pieces separator bytes ≡ bytes ∷ []
-uncut_line separator bytes none =
+pub cut_none : (separator : ℕ) (bytes : List ℕ) → position (λ b. b == separator) bytes ≡ None → pieces separator bytes ≡ bytes ∷ []
+cut_none separator bytes none =
     let far : length bytes ≤ position_or_len (λ b. b == separator) bytes = found_nowhere _ _ none in
     uncut separator bytes (λ k lt. fails_before_first (λ b. b == separator) bytes k 0 (omega (arith, far, lt)))
 
-pub cut_line : (separator : ℕ) (bytes : List ℕ) (at : ℕ) → position (λ b. b == separator) bytes ≡ Some at → CutAt separator bytes at
-cut_line separator bytes at found =
+pub cut_some : (separator : ℕ) (bytes : List ℕ) (at : ℕ) → position (λ b. b == separator) bytes ≡ Some at → CutAt separator bytes at
+cut_some separator bytes at found =
     let (low, place) = found_at (position_or_len (λ b. b == separator) bytes) (length bytes) at found in
     cut_at separator bytes at (omega (arith, low, place)) place

@@ -5,7 +5,6 @@ ghost use Rattle.gd_cert.specs.Drafts.{CutsAt, TellsAlike, texts};
 ghost use Rattle.gd_cert.specs.Words.{is_word, words_of};
 
 use gd_base::Memory;
-use memchr::memchr;
 
 // The most words of a line: `w`, a root and 12 numbers.
 const MOST_WORDS: usize = 14;
@@ -17,30 +16,22 @@ pub(crate) fn is(word: &[u8], other: &[u8]) -> bool
     word == other
 }
 
+// The place of the first separator. Lines and words are short, so a plain loop finds it sooner than a search by many bytes at once.
+#[inline(always)]
+fn place_of(separator: u8, bytes: &[u8]) -> Option<usize>
+    ensures { result ≡ position (λ b. b == separator) bytes.now }
+{
+    bytes.iter().position(|byte| *byte == separator)
+}
+
 /// What stands before the first separator, and what stands behind it.
+#[inline(always)]
 pub(crate) fn cut(bytes: &[u8], separator: u8) -> Option<(&[u8], &[u8])>
     ensures { CutsAt separator bytes.now result }
 {
-    match memchr(separator, bytes) {
+    match place_of(separator, bytes) {
         None => None,
         Some(at) => Some((&bytes[..at], &bytes[at + 1..])),
-    }
-}
-
-// The place of the first space. Words are short, so a plain loop finds it sooner than `memchr`.
-fn space_in(line: &[u8]) -> Option<usize>
-    ensures { result ≡ position (λ b. b == 32) line.now }
-{
-    line.iter().position(|byte| *byte == b' ')
-}
-
-// The first word of a line, and what stands behind its space.
-fn cut_word(line: &[u8]) -> Option<(&[u8], &[u8])>
-    ensures { CutsAt 32 line.now result }
-{
-    match space_in(line) {
-        None => None,
-        Some(at) => Some((&line[..at], &line[at + 1..])),
     }
 }
 
@@ -52,7 +43,7 @@ pub(crate) fn split_words<'a>(line: &'a [u8], words: &mut Vec<&'a [u8]>) -> Resu
     words.clear();
     let mut rest = line;
     while words.len() < MOST_WORDS {
-        let Some((word, more)) = cut_word(rest) else {
+        let Some((word, more)) = cut(rest, b' ') else {
             break;
         };
         words.push(word)?;

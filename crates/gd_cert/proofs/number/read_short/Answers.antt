@@ -1,4 +1,4 @@
-use Rattle.std.proofs.Common.{arith, ◌≡◌, ◌∙◌, sym, false}
+use Rattle.std.proofs.Common.{arith, sym}
 use Rattle.gd_cert.proofs.Digits.{not_plain, read_is, read_is_large, unread_is}
 use Rattle.gd_cert.proofs.number.read_short.Goals as goal
 
