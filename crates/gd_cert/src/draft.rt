@@ -182,6 +182,7 @@ impl CertDraft {
         self.take_group(line, words)
     }
 
+    #[inline(always)]
     fn take_node(&mut self, undecided: bool, words: &[&[u8]]) -> Result<(), LineFault>
         ensures { Takes (draft_of self.new) result (with_node undecided (texts words.now) (draft_of self.old)) }
     {

@@ -255,6 +255,7 @@ fn read_reason(word: &[u8]) -> Option<Reason>
 }
 
 /// Whether the line ends a tree: its first word is `group` or `end`.
+#[inline]
 pub(crate) fn is_behind_tree(words: &[&[u8]]) -> bool
     ensures { result ≡ ends_tree (texts words.now) }
 {
@@ -265,6 +266,7 @@ pub(crate) fn is_behind_tree(words: &[&[u8]]) -> bool
 }
 
 /// A line of a tree: `s`, `r C A B`, and `o` where a cell may be undecided.
+#[inline]
 pub(crate) fn read_node(undecided: bool, words: &[&[u8]]) -> Result<Node, Rule>
     ensures { result ≡ node_in undecided (texts words.now) }
 {
@@ -283,6 +285,7 @@ pub(crate) fn read_node(undecided: bool, words: &[&[u8]]) -> Result<Node, Rule>
 }
 
 // A node whose line has no more words.
+#[inline]
 fn alone(node: Node, words: &[&[u8]]) -> Result<Node, Rule>
     ensures { result ≡ lone node (texts words.now) }
 {
@@ -293,6 +296,7 @@ fn alone(node: Node, words: &[&[u8]]) -> Result<Node, Rule>
     }
 }
 
+#[inline]
 fn read_evidence(words: &[&[u8]]) -> Result<Node, Rule>
     ensures { result ≡ evidence_in (texts words.now) }
 {

@@ -33,6 +33,7 @@ fn with_figure(number: u64, byte: u8) -> u64
 }
 
 // The number that some digits write, or none where another byte stands among them.
+#[inline(always)]
 fn read_digits(word: &[u8]) -> Option<u64>
     requires { length word.now ≤ 18 }
     ensures { result ≡ digits_from 0 word.now }
@@ -48,6 +49,7 @@ fn read_digits(word: &[u8]) -> Option<u64>
 }
 
 // Whether a word is neither empty nor begins with a zero that something follows.
+#[inline(always)]
 fn begins_plain(word: &[u8]) -> bool
     ensures { result ≡ begins_plain word.now }
 {
@@ -55,6 +57,7 @@ fn begins_plain(word: &[u8]) -> bool
 }
 
 // The number below the limit that a short word spells. It is read digit by digit: most words of a certificate are short.
+#[inline(always)]
 fn read_short(word: &[u8], limit: u64) -> Option<u64>
     requires few { limit ≤ 2 ^ 63 }
     requires short { length word.now ≤ 18 }
@@ -71,6 +74,7 @@ fn read_short(word: &[u8], limit: u64) -> Option<u64>
 }
 
 /// The number below the limit that a word spells.
+#[inline]
 pub(crate) fn read_below(word: &[u8], limit: u64) -> Option<u64>
     requires some { 1 ≤ limit }
     requires few { limit ≤ 2 ^ 63 }
@@ -87,6 +91,7 @@ pub(crate) fn read_below(word: &[u8], limit: u64) -> Option<u64>
 }
 
 /// The number below 2^32 that a word spells.
+#[inline]
 pub(crate) fn read_number(word: &[u8]) -> Option<u32>
     ensures { result ≡ number_of word.now }
 {
