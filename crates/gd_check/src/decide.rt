@@ -83,7 +83,8 @@ fn first_wrong<T: Task>(
 
 /// Decides a certificate of some tasks: it is valid exactly where it is right, and else its first wrong line is told, with code 50 to 57.
 ///
-/// It makes no search. It asks the tasks of each line alone: whether its evidence refutes its cell, or whether the centre holds.
+/// It makes no search. It asks a task of the cell of each line alone: whether the line's evidence refutes it; and in an open group, of a cell that is
+/// halved or left, whether anything refutes it and whether its centre holds.
 pub fn check<T: Task>(alloc: Global, tasks: &[T], cert: &Cert) -> Result<CheckAnswer, Memory>
     requires bounds { IsInBounds (certificate_of cert.now) }
     requires lines { KeepsLines cert.now }
