@@ -1,3 +1,4 @@
+pub mod Boards
 pub mod Counted
 pub mod Forest
 mod KnownValues

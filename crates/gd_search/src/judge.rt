@@ -1,6 +1,7 @@
 // The search.
 ghost use Rattle.std.specs.Prelude.{◌≡◌, ◌≤◌, ◌<◌, ◌+◌, ◌*◌, ◌^◌, ◌≢◌, IfOk, IfSome, List, ℕ, None, find, length, map, option_map};
 ghost use Rattle.std.specs.List.{All};
+ghost use Rattle.std.specs.Thread.{IsSync};
 ghost use Rattle.gd_cells.specs.Meaning.{IsCell};
 ghost use Rattle.gd_search.specs.Lines.{left_of, written_roots};
 ghost use Rattle.gd_search.specs.Outcomes.{AcceptsRightly, RejectsRightly, end_of};
@@ -11,6 +12,7 @@ ghost use Rattle.gd_cells.specs.declared.node.Node.{Node};
 
 use crate::outcome::Outcome;
 use crate::row::{Row, bound_level, count_undecided, first_holding, half_rows, root_rows};
+use crate::team::{Asked, Team, help, helpers_for};
 use crate::tree::{Level, keep_level, write_tree};
 use gd_base::{Memory, Reason};
 use gd_cells::{
@@ -18,7 +20,8 @@ use gd_cells::{
     show_halves_cover, show_holds_is_feasible, show_refuted_is_empty, show_roots_cover,
 };
 use std::alloc::Global;
-use std::thread::Threads;
+use std::marker::Brand;
+use std::thread::{Threads, join};
 
 // Why a search ends at a level.
 #[derive(Clone, Copy)]
@@ -106,13 +109,15 @@ fn finish(
 }
 
 // Searches level after level, and keeps what was found in the cells of each.
-fn search_levels<R: Threads + Sync, T: Task>(
+fn search_levels<J: Asked, R: Threads + Sync, T: Task>(
     rt: &R,
     alloc: Global,
     task: &T,
+    team: &Team<J>,
     budget: u32,
 ) -> Result<Outcome, Memory>
-    requires { budget ≤ 1000000 }
+    requires same { T.questions task.now ≡ J.questions }
+    requires budget { budget ≤ 1000000 }
     ensures { IfOk result (λ o. IsVerdict (T.questions task.now) budget (end_of o)) }
 {
     show_grid(task);
@@ -126,7 +131,7 @@ fn search_levels<R: Threads + Sync, T: Task>(
         spent: 0,
     };
     'levels: loop {
-        bound_level(rt, task, &mut rows);
+        bound_level(rt, alloc, task, team, place.level, &mut rows);
         keep_level(alloc, &mut levels, rows.as_slice())?;
         place.undecided = count_undecided(rows.as_slice()) as u32;
         let holding = first_witness(task, rows.as_slice());
@@ -138,6 +143,74 @@ fn search_levels<R: Threads + Sync, T: Task>(
         place.spent += place.undecided;
         place.level += 1;
     }
+}
+
+// Searches the levels, and then lets the helpers go.
+fn search_and_end<J: Asked, R: Threads + Sync, T: Task>(
+    rt: &R,
+    alloc: Global,
+    task: &T,
+    team: &Team<J>,
+    budget: u32,
+) -> Result<Outcome, Memory>
+    requires same { T.questions task.now ≡ J.questions }
+    requires budget { budget ≤ 1000000 }
+    ensures { IfOk result (λ o. IsVerdict (T.questions task.now) budget (end_of o)) }
+{
+    let outcome = search_levels(rt, alloc, task, team, budget);
+    team.end();
+    outcome
+}
+
+// Searches the levels with so many helpers, each in a thread of its own where one can be made.
+fn search_helped<J: Asked + Send + Sync, R: Threads + Sync, T: Task>(
+    rt: &R,
+    alloc: Global,
+    task: &T,
+    team: &Team<J>,
+    budget: u32,
+    helpers: usize,
+) -> Result<Outcome, Memory>
+    requires same { T.questions task.now ≡ J.questions }
+    requires budget { budget ≤ 1000000 }
+    ensures { IfOk result (λ o. IsVerdict (T.questions task.now) budget (end_of o)) }
+{
+    if helpers == 0 {
+        return search_and_end(rt, alloc, task, team, budget);
+    }
+    let others = helpers - 1;
+    let (_, outcome) = join(
+        rt,
+        || -> ()
+            requires { T.questions task.now ≡ J.questions }
+        { help(task, team) },
+        || -> Result<Outcome, Memory>
+            requires { IsSync R.row × (T.questions task.now ≡ J.questions) × (budget ≤ 1000000) }
+            ensures { IfOk result (λ o. IsVerdict (T.questions task.entry.now) budget (end_of o)) }
+        { search_helped(rt, alloc, task, team, budget, others) },
+    );
+    outcome
+}
+
+// Searches the levels in a team of so many helpers.
+fn search_in_team<J: Asked + Send + Sync, R: Threads + Sync, T: Task>(
+    rt: &R,
+    alloc: Global,
+    task: &T,
+    budget: u32,
+    helpers: usize,
+) -> Result<Outcome, Memory>
+    requires same { T.questions task.now ≡ J.questions }
+    requires budget { budget ≤ 1000000 }
+    ensures { IfOk result (λ o. IsVerdict (T.questions task.now) budget (end_of o)) }
+{
+    let boards = if helpers == 0 {
+        0
+    } else {
+        task.floor_level() + 1
+    };
+    let team = Team::<J>::new(alloc, boards)?;
+    search_helped(rt, alloc, task, &team, budget, helpers)
 }
 
 /// Searches the cells of a task, level after level, and splits at most `budget` cells.
@@ -162,6 +235,7 @@ pub fn search<R: Threads + Sync, T: Task>(
     show_centre_in_range(task);
     show_centre_names_place(task);
     show_holds_is_feasible(task);
-    let outcome = search_levels(rt, alloc, task, budget)?;
+    let helpers = helpers_for(rt, task.points());
+    let outcome = search_in_team::<Brand, R, T>(rt, alloc, task, budget, helpers)?;
     Ok(outcome)
 }

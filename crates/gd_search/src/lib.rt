@@ -4,6 +4,7 @@
 mod judge;
 mod outcome;
 mod row;
+mod team;
 #[cfg(test)]
 mod tests;
 mod tree;

@@ -6,6 +6,7 @@ ghost use Rattle.gd_cells.specs.Halves.{whole_root};
 ghost use Rattle.gd_cells.specs.Meaning.{IsCell};
 ghost use Rattle.gd_search.specs.Rows.{fresh, is_open, judged, rows_below};
 
+use crate::team::{Asked, Team, bound_together};
 use gd_base::Memory;
 use gd_cells::{Cell, Evidence, Task, root_cell, show_centre_in_range};
 use std::alloc::Global;
@@ -26,7 +27,8 @@ pub struct Row {
     pub holds: bool,
 }
 
-fn fresh_row(cell: Cell) -> Row
+/// The row of a cell before its bounding.
+pub fn fresh_row(cell: Cell) -> Row
     ensures { result ≡ fresh cell }
 {
     Row {
@@ -48,8 +50,8 @@ pub fn root_rows(alloc: Global, roots: u32) -> Result<Vec<Row>, Memory>
     Ok(rows)
 }
 
-// Bounds the cell of one row, and tries its centre where it stays undecided.
-fn bound_row<T: Task>(task: &T, row: &mut Row)
+/// Bounds the cell of one row, and tries its centre where it stays undecided.
+pub fn bound_row<T: Task>(task: &T, row: &mut Row)
     requires { IsCell (T.questions task.now) row.old.cell }
     ensures { row.new ≡ judged (T.questions task.now) row.old }
 {
@@ -98,13 +100,26 @@ fn bound_parts<R: Threads + Sync, T: Task>(rt: &R, task: &T, rows: &mut [Row], p
     );
 }
 
-/// Bounds the cells of a level. It takes no memory. Where there is enough to do, parts of it are bounded side by side.
-pub fn bound_level<R: Threads + Sync, T: Task>(rt: &R, task: &T, rows: &mut Vec<Row>)
-    requires { All (λ row. IsCell (T.questions task.now) row.cell) rows.old.items }
+/// Bounds the cells of a level. Where there is enough to do, several threads share them: the helpers of the team where the level is
+/// narrow, and else threads that this level starts.
+pub fn bound_level<J: Asked, R: Threads + Sync, T: Task>(
+    rt: &R,
+    alloc: Global,
+    task: &T,
+    team: &Team<J>,
+    level: u32,
+    rows: &mut Vec<Row>,
+)
+    requires same { T.questions task.now ≡ J.questions }
+    requires cells { All (λ row. IsCell (T.questions task.now) row.cell) rows.old.items }
     ensures { rows.new.items ≡ map (judged (T.questions task.now)) rows.old.items }
 {
-    let parts = parts_of(rows.len(), task.points());
-    bound_parts(rt, task, rows.as_mut_slice(), parts);
+    let points = task.points();
+    let rows = rows.as_mut_slice();
+    if !bound_together(alloc, task, team, level as usize, rows) {
+        let parts = parts_of(rows.len(), points);
+        bound_parts(rt, task, rows, parts);
+    }
 }
 
 /// How many cells are undecided.

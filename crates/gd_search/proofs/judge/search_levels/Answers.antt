@@ -33,8 +33,8 @@ levels-init g c =
       before = λ m h. absurd (omega arith);
     }
 
-pub bound_level-requires-after_bounds : goal.bound_level-requires-after_bounds
-bound_level-requires-after_bounds g c κs within =
+pub bound_level-requires-clause-cells : goal.bound_level-requires-clause-cells
+bound_level-requires-clause-cells g c κs within =
     let q : Questions = g.T.Task.questions c.args.task.now in
     let low : c.levels.place.level ≤ q.finest = omega (arith, c.levels.invariant.level, c.floor_level-finest.ensures) in
     subst (λ rows. All (λ (row : Row). IsCell q row.cell) rows) (sym c.levels.invariant.rows) (cells_of_fresh q c.levels.place.level (candidates q c.levels.place.level) (candidates_at q c.show_grid.ensures c.levels.place.level low))
