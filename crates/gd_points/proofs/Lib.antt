@@ -1,8 +1,13 @@
 mod Beside
 pub mod Records
+pub mod Cuts
+pub mod Headers
 pub mod Fields
 pub mod Again
 pub mod Marks
 pub mod Used
 mod KnownValues
 pub mod Tables
+pub mod Joins
+pub mod Anywhere
+pub mod Whole

@@ -83,7 +83,7 @@ same zero m = λ s y b l k. absurd (omega arith)
 same (suc n) zero = λ s y b l k. absurd (omega arith)
 same (suc n) (suc m) = λ s y b l k. same-next n m (same n m) s y b l k _ refl
 
-rest-some : (s : State) (y : List ℕ) (p : Read) → ends_at_end s ≡ false → next_record default_config s [] [] y ≡ Some p
+pub rest-some : (s : State) (y : List ℕ) (p : Read) → ends_at_end s ≡ false → next_record default_config s [] [] y ≡ Some p
     → (ends_at_end p.1 ≡ false) × (length p.2 < length y) × (rest s y ≡ p.0 ∷ rest p.1 p.2)
 unfolding records_from
 rest-some s y p b e =
@@ -91,7 +91,7 @@ rest-some s y p b e =
     let less = g b in
     (c, less, rw (add-one, e) (ap (λ t. p.0 ∷ t) (same (length y) (length p.2 + 1) p.1 p.2 c less (omega arith))))
 
-rest-none : (s : State) (y : List ℕ) → next_record default_config s [] [] y ≡ None → rest s y ≡ []
+pub rest-none : (s : State) (y : List ℕ) → next_record default_config s [] [] y ≡ None → rest s y ≡ []
 unfolding records_from
 rest-none s y e = rw (add-one, e) refl
 

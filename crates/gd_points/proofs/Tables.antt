@@ -4,7 +4,7 @@ use Rattle.std.proofs.lemmas.List.{length-append}
 use Rattle.std.proofs.lemmas.Bool.Decides.{nat_tests}
 use Rattle.csv.specs.Reading.{default_config, records, strip_bom}
 use Rattle.gd_base.specs.declared.fault.InputFault.{InputFault}
-use Rattle.gd_points.specs.Points.{Five, Point, and_then_read, five_of, is_header, next_row, or_fault, point_in, points, points_from, points_of, with_record}
+use Rattle.gd_points.specs.Points.{Five, Point, and_then_read, five_of, is_header, next_row, or_fault, point_in, points, points_from, points_of, with_points, with_record, with_records}
 use Rattle.gd_points.specs.Rules.{fault}
 use Rattle.gd_points.specs.Table.{Table, empty_table, with_point}
 use Rattle.gd_points.specs.declared.rule.Rule.TheVariants as rule
@@ -13,16 +13,12 @@ ended : (none : Bool) (t u : Table) (f : InputFault) → (length t.rows == 0) �
 ended true t u f e h = absurd (cc)
 ended false t u f e h = let same : t ≡ u = cc in let some : 0 < length t.rows = grind (arith, nat_tests) in subst (λ (v : Table). 0 < length v.rows) same some
 
-went_on : (r : Result Table InputFault) (rest : List (List (List ℕ))) (u : Table) → ((v : Table) → points_from v rest ≡ Ok u → 0 < length u.rows) → and_then_read r (λ v. points_from v rest) ≡ Ok u → 0 < length u.rows
-went_on (Ok v) rest u more h = more v h
-went_on (Err f) rest u more h = absurd (cc)
-
-from_some : (rs : List (List (List ℕ))) (t u : Table) → points_from t rs ≡ Ok u → 0 < length u.rows
-from_some [] t u h = ended (length t.rows == 0) t u _ refl h
-from_some (fields ∷ rest) t u h = went_on (with_record t fields) rest u (λ v e. from_some rest v u e) h
+from_some : (r : Result Table InputFault) (u : Table) → and_then_read r with_points ≡ Ok u → 0 < length u.rows
+from_some (Ok v) u h = ended (length v.rows == 0) v u _ refl h
+from_some (Err f) u h = absurd (cc)
 
 begun : (header : Bool) (rest : List (List (List ℕ))) (u : Table) (f : InputFault) → cond header (points_from empty_table rest) (Err f) ≡ Ok u → 0 < length u.rows
-begun true rest u f h = from_some rest empty_table u h
+begun true rest u f h = from_some (with_records empty_table rest) u h
 begun false rest u f h = absurd (cc)
 
 all_some : (rs : List (List (List ℕ))) (u : Table) → points_of rs ≡ Ok u → 0 < length u.rows
@@ -48,20 +44,24 @@ record_few : (five : Option Five) (t u : Table) (f : InputFault) → and_then_re
 record_few (Some five) t u f h = room_few (nat_lt (length t.rows) 200000) t u (point_in (next_row t) five) _ refl h
 record_few None t u f h = absurd (cc)
 
+went_few : (r : Result Table InputFault) (rest : List (List (List ℕ))) (u : Table) → ((v : Table) → r ≡ Ok v → length v.rows ≤ 200000) → ((v : Table) → length v.rows ≤ 200000 → with_records v rest ≡ Ok u → length u.rows ≤ 200000) → and_then_read r (λ v. with_records v rest) ≡ Ok u → length u.rows ≤ 200000
+went_few (Ok v) rest u few more h = more v (few v refl) h
+went_few (Err f) rest u few more h = absurd (cc)
+
+records_few : (rs : List (List (List ℕ))) (t u : Table) → length t.rows ≤ 200000 → with_records t rs ≡ Ok u → length u.rows ≤ 200000
+records_few [] t u few h = let same : t ≡ u = cc in subst (λ (v : Table). length v.rows ≤ 200000) same few
+records_few (fields ∷ rest) t u few h = went_few (with_record t fields) rest u (λ v e. record_few (five_of fields) t v (fault rule.Fields (next_row t) 0) e) (λ v room e. records_few rest v u room e) h
+
 ended_few : (none : Bool) (t u : Table) (f : InputFault) → length t.rows ≤ 200000 → cond none (Err f) (Ok t) ≡ Ok u → length u.rows ≤ 200000
 ended_few true t u f few h = absurd (cc)
 ended_few false t u f few h = let same : t ≡ u = cc in subst (λ (v : Table). length v.rows ≤ 200000) same few
 
-went_few : (r : Result Table InputFault) (rest : List (List (List ℕ))) (u : Table) → ((v : Table) → r ≡ Ok v → length v.rows ≤ 200000) → ((v : Table) → length v.rows ≤ 200000 → points_from v rest ≡ Ok u → length u.rows ≤ 200000) → and_then_read r (λ v. points_from v rest) ≡ Ok u → length u.rows ≤ 200000
-went_few (Ok v) rest u few more h = more v (few v refl) h
-went_few (Err f) rest u few more h = absurd (cc)
-
-from_few : (rs : List (List (List ℕ))) (t u : Table) → length t.rows ≤ 200000 → points_from t rs ≡ Ok u → length u.rows ≤ 200000
-from_few [] t u few h = ended_few (length t.rows == 0) t u _ few h
-from_few (fields ∷ rest) t u few h = went_few (with_record t fields) rest u (λ v e. record_few (five_of fields) t v (fault rule.Fields (next_row t) 0) e) (λ v room e. from_few rest v u room e) h
+from_few : (r : Result Table InputFault) (u : Table) → ((v : Table) → r ≡ Ok v → length v.rows ≤ 200000) → and_then_read r with_points ≡ Ok u → length u.rows ≤ 200000
+from_few (Ok v) u few h = ended_few (length v.rows == 0) v u _ (few v refl) h
+from_few (Err f) u few h = absurd (cc)
 
 begun_few : (header : Bool) (rest : List (List (List ℕ))) (u : Table) (f : InputFault) → cond header (points_from empty_table rest) (Err f) ≡ Ok u → length u.rows ≤ 200000
-begun_few true rest u f h = from_few rest empty_table u (omega arith) h
+begun_few true rest u f h = from_few (with_records empty_table rest) u (λ v e. records_few rest empty_table v (omega arith) e) h
 begun_few false rest u f h = absurd (cc)
 
 all_few : (rs : List (List (List ℕ))) (u : Table) → points_of rs ≡ Ok u → length u.rows ≤ 200000

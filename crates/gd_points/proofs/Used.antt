@@ -18,7 +18,7 @@ use Rattle.gd_points.specs.declared.table.Row.{Row}
 longer : (rows : List Row) (row : Row) (k : ℕ) → k < length rows → k < length (rows ++ row ∷ [])
 longer rows row k lt = let more = length-append rows (row ∷ []) in omega arith
 
-at_most : (names : List (List ℕ)) (name : List ℕ) (f : ℕ) → f < length (names ++ name ∷ []) → f ≤ length names
+pub at_most : (names : List (List ℕ)) (name : List ℕ) (f : ℕ) → f < length (names ++ name ∷ []) → f ≤ length names
 at_most names name f lt = let more = length-append names (name ∷ []) in omega arith
 
 -- a row that is there stays
@@ -33,7 +33,7 @@ fails p xs k lt none true is = sym (list_any_at p xs k [] lt is) ∙ none
 fails p xs k lt none false is = refl
 
 -- a name that no name is equal to gets the next number
-no_place : (p : List ℕ → Bool) (xs : List (List ℕ)) → list_any p xs ≡ false → position_or_len p xs ≡ length xs
+pub no_place : (p : List ℕ → Bool) (xs : List (List ℕ)) → list_any p xs ≡ false → position_or_len p xs ≡ length xs
 no_place p xs none = position_or_len_is p xs (length xs) [] (omega arith) (λ k lt. fails p xs k lt none (p (get_or xs k [])) refl) (λ lt. absurd (omega arith))
 
 by_known : (rows : List Row) (names : List (List ℕ)) (name : List ℕ) (row : Row) → HasRows rows (length names) → row.feature ≡ position_or_len (pointwise nat_eq name) names

@@ -79,10 +79,18 @@ with_record t fields =
     then and_then_read (point_in (next_row t) five) (λ p. Ok (with_point t p.name p.group p.at))
     else Err (fault rule.TooManyPoints (next_row t) 0))
 
+-- the table with the points of these records
+abbrev pub with_records : Table → List (List (List ℕ)) → Result Table InputFault
+with_records t [] = Ok t
+with_records t (fields ∷ rest) = and_then_read (with_record t fields) (λ u. with_records u rest)
+
+-- a table that has points
+abbrev pub with_points : Table → Result Table InputFault
+with_points t = if length t.rows == 0 then Err (fault rule.NoPoints 2 0) else Ok t
+
 -- the table with the points of these records, which are the last of the file
 abbrev pub points_from : Table → List (List (List ℕ)) → Result Table InputFault
-points_from t [] = if length t.rows == 0 then Err (fault rule.NoPoints 2 0) else Ok t
-points_from t (fields ∷ rest) = and_then_read (with_record t fields) (λ u. points_from u rest)
+points_from t records = and_then_read (with_records t records) with_points
 
 -- whether five fields are `feature`, `group`, `x`, `y`, `z`
 abbrev pub is_header : Option Five → Bool

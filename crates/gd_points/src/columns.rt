@@ -73,4 +73,16 @@ impl ColumnLists {
         self.y.push_reserved(short(at.y));
         self.z.push_reserved(short(at.z));
     }
+
+    // Adds the points of others behind these.
+    pub fn append(&mut self, more: &mut ColumnLists) -> Result<(), AllocError>
+        ensures x { OnOk result (self.new.x.items ≡ self.old.x.items ++ more.old.x.items) }
+        ensures y { OnOk result (self.new.y.items ≡ self.old.y.items ++ more.old.y.items) }
+        ensures z { OnOk result (self.new.z.items ≡ self.old.z.items ++ more.old.z.items) }
+    {
+        self.x.append(&mut more.x)?;
+        self.y.append(&mut more.y)?;
+        self.z.append(&mut more.z)?;
+        Ok(())
+    }
 }

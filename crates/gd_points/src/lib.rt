@@ -3,6 +3,7 @@
 
 mod columns;
 mod number;
+mod parts;
 mod read;
 mod rule;
 mod table;

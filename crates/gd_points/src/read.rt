@@ -4,20 +4,22 @@ ghost use Rattle.csv.specs.Reading.{default_config, records, strip_bom};
 ghost use Rattle.csv.specs.Records.{fields_of, field_at};
 ghost use Rattle.gd_base.specs.Names.{name_of};
 ghost use Rattle.gd_points.specs.Parts.{Adds, IsNamed, name_in, seen, shown};
-ghost use Rattle.gd_points.specs.Points.{Answers, coordinate_in, five_of, group_in, is_header, next_row, number_in, or_fault, place_in, point_in, points, with_record};
+ghost use Rattle.gd_points.specs.Points.{Answers, coordinate_in, five_of, group_in, is_header, next_row, number_in, or_fault, place_in, point_in, points, with_record, with_records};
 ghost use Rattle.gd_points.specs.Reader.{IsBetween, TakesHeader, TakesNext, records_left};
 ghost use Rattle.gd_points.specs.Rules.{fault};
-ghost use Rattle.gd_points.specs.Table.{with_point};
+ghost use Rattle.gd_points.specs.Table.{empty_table, with_point};
 ghost use Rattle.gd_points.specs.declared.rule.Rule.TheVariants as rule;
 ghost use Rattle.gd_vec.specs.Vector.{IsWithin};
 
 use crate::number::read_number;
+use crate::parts::read_in_parts;
 use crate::{PointTable, Rule};
 use csv::{ByteRecord, Reader, ReaderBuilder};
 use gd_base::limits::{COORDINATE, GROUP, POINTS};
 use gd_base::{Memory, Name, ReadFault};
 use gd_vec::V3;
 use std::alloc::Global;
+use std::thread::Threads;
 
 // The fields of a record of five.
 #[derive(Drop)]
@@ -46,25 +48,53 @@ struct PointRead {
 
 /// The table of a points file (docs/FORMATS.md, "Points file"), or the first fault of it.
 /// A byte order mark is dropped, and `csv` drops one more.
+/// A long file with nothing out of the ordinary is read in parts side by side, which changes nothing of the answer.
 /// `Memory` is answered for each error of `csv` too: over bytes in memory it has no other cause.
-pub fn read_points(alloc: Global, bytes: &[u8]) -> Result<PointTable, ReadFault>
+pub fn read_points<R: Threads + Sync>(
+    rt: &R,
+    alloc: Global,
+    bytes: &[u8],
+) -> Result<PointTable, ReadFault>
+    ensures { Answers (λ t. t) result (points bytes.now) }
+{
+    match read_in_parts(rt, alloc, bytes) {
+        Some(table) => Ok(table),
+        None => read_whole(alloc, bytes),
+    }
+}
+
+// The same from the first byte to the last.
+fn read_whole(alloc: Global, bytes: &[u8]) -> Result<PointTable, ReadFault>
     ensures { Answers (λ t. t) result (points bytes.now) }
 {
     let mut reader = records_in(alloc, without_mark(bytes));
     let mut entry = ByteRecord::new(alloc);
     read_header(&mut reader, &mut entry)?;
-    let mut table = PointTable::new(alloc);
-    while read_next(&mut reader, &mut entry)? {
-        add_record(alloc, &mut table, &entry)?;
-    }
+    let table = read_records(alloc, &mut reader, &mut entry)?;
     if table.rows().is_empty() {
         return Err(Rule::NoPoints.broken_at(2, 0));
     }
     Ok(table)
 }
 
+// The table of the records that are left.
+pub(crate) fn read_records(
+    alloc: Global,
+    reader: &mut Reader<&[u8]>,
+    entry: &mut ByteRecord,
+) -> Result<PointTable, ReadFault>
+    requires { IsBetween reader.old }
+    ensures { Answers (λ t. t) result (with_records empty_table (records_left reader.old)) }
+{
+    let mut table = PointTable::new(alloc);
+    while read_next(reader, entry)? {
+        add_record(alloc, &mut table, entry)?;
+    }
+    Ok(table)
+}
+
 // The bytes without a byte order mark at their start.
-fn without_mark(bytes: &[u8]) -> &[u8]
+pub(crate) fn without_mark(bytes: &[u8]) -> &[u8]
     ensures { result.now ≡ strip_bom bytes.now }
 {
     match bytes.strip_prefix(b"\xEF\xBB\xBF".as_slice()) {
@@ -74,7 +104,7 @@ fn without_mark(bytes: &[u8]) -> &[u8]
 }
 
 // A reader of the records, each of any length.
-fn records_in(alloc: Global, bytes: &[u8]) -> Reader<&[u8]>
+pub(crate) fn records_in(alloc: Global, bytes: &[u8]) -> Reader<&[u8]>
     ensures between { IsBetween result }
     ensures records { records_left result ≡ records default_config (strip_bom bytes.now) }
 {

@@ -1,8 +1,10 @@
 // The table of points.
-ghost use Rattle.std.specs.Prelude.{◌≡◌, ◌<◌, ◌≤◌, ◌^◌, [], length, OnOk, OnErr, slice_get, get_or, Some, IfSome, position, nat_eq, true};
+ghost use Rattle.std.specs.Prelude.{◌≡◌, ◌<◌, ◌≤◌, ◌^◌, [], length, OnOk, OnErr, slice_get, get_or, Some, IfOk, IfSome, map, position, nat_eq, true, ◌+◌};
+ghost use Rattle.indexmap.specs.IndexSet.{insert_all};
+ghost use Rattle.gd_points.specs.Joined.{numbers_of, renumbered};
 ghost use Rattle.gd_base.specs.Names.{is_name};
 ghost use Rattle.std.specs.Cmp.Lexicographic.{pointwise};
-ghost use Rattle.std.specs.List.{All, Any};
+ghost use Rattle.std.specs.List.{All, Any, IsDistinct};
 ghost use Rattle.gd_points.specs.Columns.{AreColumns};
 ghost use Rattle.gd_vec.specs.Vector.{IsWithin};
 
@@ -42,8 +44,47 @@ impl Model for PointTable {
     ghost invariant = { λ t. HasColumns (record { rows = t.rows.items; names = t.names.keys }) t.columns.x.items t.columns.y.items t.columns.z.items };
 }
 
+// Adds names behind others, and gives the numbers that they get.
+fn numbers_behind(
+    alloc: Global,
+    names: &mut IndexSet<Name>,
+    more: IndexSet<Name>,
+) -> Result<Vec<u32>, Memory>
+    requires few { length names.old.keys + length more.keys ≤ 200000 }
+    requires distinct { IsDistinct (pointwise nat_eq) names.old.keys }
+    ensures distinct { OnOk result (IsDistinct (pointwise nat_eq) names.new.keys) }
+    ensures names { OnOk result (names.new.keys ≡ insert_all (pointwise nat_eq) names.old.keys more.keys) }
+    ensures numbers { IfOk result (λ numbers. numbers.items ≡ numbers_of names.old.keys more.keys) }
+{
+    let mut numbers = Vec::new(alloc);
+    for name in more {
+        let (number, _) = names.insert_full(name)?;
+        numbers.push(number as u32)?;
+    }
+    Ok(numbers)
+}
+
+fn renumber_row(row: &mut Row, numbers: &[u32])
+    requires { row.old.feature < length numbers.now }
+    ensures { row.new ≡ renumbered numbers.now row.old }
+{
+    row.feature = numbers[row.feature as usize];
+}
+
+// Gives the features of rows these numbers.
+#[tactic(auto, using(crate::proofs::Whole::feature_of_row))]
+fn renumber(rows: &mut [Row], numbers: &[u32])
+    requires { All (λ row. row.feature < length numbers.now) rows.old }
+    ensures { rows.new ≡ map (renumbered numbers.now) rows.old }
+{
+    for row in rows.iter_mut() {
+        renumber_row(row, numbers);
+    }
+}
+
 impl PointTable {
     ghost use Rattle.gd_points.specs.Table.{Table, empty_table, with_point};
+    ghost use Rattle.gd_points.specs.Joined.{joined};
 
     /// A table with no points.
     pub fn new(alloc: Global) -> PointTable
@@ -94,6 +135,33 @@ impl PointTable {
         self.rows.push_reserved(Row { feature, group, at });
         self.columns.push_reserved(&at);
         Ok(())
+    }
+
+    /// One table of the points of this one and then those of another one, whose features keep their names.
+    #[tactic(auto)]
+    pub(crate) fn joined_to(self, alloc: Global, behind: PointTable) -> Result<PointTable, Memory>
+        requires { length self.rows + length behind.rows ≤ 200000 }
+        ensures { IfOk result (λ t. t ≡ joined self behind) }
+    {
+        let PointTable {
+            mut rows,
+            mut columns,
+            mut names,
+        } = self;
+        let PointTable {
+            rows: mut more_rows,
+            columns: mut more_columns,
+            names: more_names,
+        } = behind;
+        let numbers = numbers_behind(alloc, &mut names, more_names)?;
+        renumber(more_rows.as_mut_slice(), numbers.as_slice());
+        rows.append(&mut more_rows)?;
+        columns.append(&mut more_columns)?;
+        Ok(PointTable {
+            rows,
+            columns,
+            names,
+        })
     }
 
     /// The feature of the last point, if its name has these bytes.

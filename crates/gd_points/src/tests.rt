@@ -1,8 +1,10 @@
 // Small files with their tables and faults, worked by hand from the grammar of docs/FORMATS.md.
+use crate::parts::read_split;
 use crate::{Row, read_points};
 use gd_base::{InputFault, Name, ReadFault};
 use gd_vec::V3;
 use std::alloc::{AllocError, Global};
+use std::thread::Threads;
 
 const HEADER: &[u8] = b"feature,group,x,y,z\n";
 
@@ -15,8 +17,8 @@ fn with_header(alloc: Global, lines: &[u8]) -> Result<Vec<u8>, AllocError> {
 }
 
 // The code, row and column of a file's fault.
-fn refused(alloc: Global, file: &[u8]) -> Option<(u32, u32, u32)> {
-    match read_points(alloc, file) {
+fn refused<R: Threads + Sync>(rt: &R, alloc: Global, file: &[u8]) -> Option<(u32, u32, u32)> {
+    match read_points(rt, alloc, file) {
         Err(ReadFault::Input(InputFault { code, row, column })) => Some((code, row, column)),
         _ => None,
     }
@@ -37,7 +39,7 @@ fn faults_of_the_header(rt: HostRuntime) {
         (b"feature,group,x,y,z\r\n\r\n\n", (16, 2, 0)),
     ];
     for (file, fault) in cases {
-        assert_eq!(rt; refused(rt.alloc(), file), Some(fault), "{file:?}");
+        assert_eq!(rt; refused(&rt, rt.alloc(), file), Some(fault), "{file:?}");
     }
 }
 
@@ -72,7 +74,7 @@ fn faults_of_points(rt: HostRuntime) {
     for (lines, fault) in cases {
         let file = with_header(rt.alloc(), lines).expect(&rt, "memory");
         assert_eq!(rt;
-            refused(rt.alloc(), file.as_slice()),
+            refused(&rt, rt.alloc(), file.as_slice()),
             Some(fault),
             "{lines:?}"
         );
@@ -89,7 +91,7 @@ fn a_table(rt: HostRuntime) {
         (1, 999, (1, 0, 0)),
         (0, 1, (2, 3, 4)),
     ];
-    let table = read_points(rt.alloc(), file).expect(&rt, "a table");
+    let table = read_points(&rt, rt.alloc(), file).expect(&rt, "a table");
     assert_eq!(rt; table.rows().len(), rows.len());
     for (i, (feature, group, (x, y, z))) in rows.into_iter().enumerate() {
         let at = V3 { x, y, z };
@@ -115,18 +117,51 @@ fn the_most_points(rt: HostRuntime) {
     for _ in 0..200_000 {
         file.extend_from_slice(b"a,0,1,2,3\n").expect(&rt, "memory");
     }
-    let table = read_points(rt.alloc(), file.as_slice()).expect(&rt, "a table");
+    let table = read_points(&rt, rt.alloc(), file.as_slice()).expect(&rt, "a table");
     assert_eq!(rt; table.rows().len(), 200_000);
     let fewer = file.len();
     file.extend_from_slice(b"a,0,1,2\n").expect(&rt, "memory");
     assert_eq!(rt;
-        refused(rt.alloc(), file.as_slice()),
+        refused(&rt, rt.alloc(), file.as_slice()),
         Some((11, 200_002, 0))
     );
     file.truncate(fewer);
     file.extend_from_slice(b"?,x,1,2,3\n").expect(&rt, "memory");
     assert_eq!(rt;
-        refused(rt.alloc(), file.as_slice()),
+        refused(&rt, rt.alloc(), file.as_slice()),
         Some((15, 200_002, 0))
     );
+}
+
+#[test]
+fn lines_in_parts(rt: HostRuntime) {
+    // features that come again in another part, blank lines, and both ends of a line
+    let lines: &[u8] =
+        b"a,0,1,2,3\nb,1,2,3,4\r\n\n\r\nc,2,3,4,5\na,3,4,5,6\r\nc,4,5,6,7\nb,5,6,7,8\nd,6,7,8,9";
+    let features = [0, 1, 2, 0, 2, 1, 3];
+    for halvings in 0..3 {
+        let table = read_split(&rt, rt.alloc(), lines, halvings).expect(&rt, "a table");
+        assert_eq!(rt; table.rows().len(), features.len());
+        for (i, feature) in features.into_iter().enumerate() {
+            let [x, y, z] = [1, 2, 3].map(|n| i as i64 + n);
+            let at = V3 { x, y, z };
+            let group = i as u32;
+            assert_eq!(rt;
+                table.rows().get(i).copied(),
+                Some(Row { feature, group, at })
+            );
+        }
+        assert_eq!(rt; table.name(3).bytes(), b"d".as_slice());
+    }
+    let unusual: [&[u8]; 3] = [
+        b"\"a\",0,1,2,3\nb,1,2,3,4\n",
+        b"\xEF\xBB\xBFa,0,1,2,3\nb,1,2,3,4\n",
+        b"a,0,1,2,3\nb,1,2,3\n",
+    ];
+    for lines in unusual {
+        for halvings in 0..2 {
+            let table = read_split(&rt, rt.alloc(), lines, halvings);
+            assert!(rt; table.is_none(), "{lines:?}");
+        }
+    }
 }
