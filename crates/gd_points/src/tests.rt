@@ -138,20 +138,26 @@ fn lines_in_parts(rt: HostRuntime) {
     // features that come again in another part, blank lines, and both ends of a line
     let lines: &[u8] =
         b"a,0,1,2,3\nb,1,2,3,4\r\n\n\r\nc,2,3,4,5\na,3,4,5,6\r\nc,4,5,6,7\nb,5,6,7,8\nd,6,7,8,9";
-    let features = [0, 1, 2, 0, 2, 1, 3];
+    let rows = [
+        (0, 0, (1, 2, 3)),
+        (1, 1, (2, 3, 4)),
+        (2, 2, (3, 4, 5)),
+        (0, 3, (4, 5, 6)),
+        (2, 4, (5, 6, 7)),
+        (1, 5, (6, 7, 8)),
+        (3, 6, (7, 8, 9)),
+    ];
     for halvings in 0..3 {
         let table = read_split(&rt, rt.alloc(), lines, halvings).expect(&rt, "a table");
-        assert_eq!(rt; table.rows().len(), features.len());
-        for (i, feature) in features.into_iter().enumerate() {
-            let [x, y, z] = [1, 2, 3].map(|n| i as i64 + n);
+        assert_eq!(rt; table.rows().len(), rows.len());
+        for (i, (feature, group, (x, y, z))) in rows.into_iter().enumerate() {
             let at = V3 { x, y, z };
-            let group = i as u32;
             assert_eq!(rt;
                 table.rows().get(i).copied(),
                 Some(Row { feature, group, at })
             );
         }
-        assert_eq!(rt; table.name(3).bytes(), b"d".as_slice());
+        assert_eq!(rt; table.features(), 4);
     }
     let unusual: [&[u8]; 3] = [
         b"\"a\",0,1,2,3\nb,1,2,3,4\n",

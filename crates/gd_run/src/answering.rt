@@ -49,7 +49,8 @@ fn check_file<'a, S: Shelf>(
 }
 
 // The answer to `checkflat` for the bytes of a points file.
-fn check_points<'a, S: Shelf>(
+fn check_points<'a, R: Threads + Sync, S: Shelf>(
+    rt: &R,
     alloc: Global,
     command: &CheckCommand<'a>,
     bytes: &[u8],
@@ -61,7 +62,7 @@ fn check_points<'a, S: Shelf>(
     ensures same { SameFiles (S.holds shelf.old) (S.holds shelf.new) }
     ensures later { S.faults shelf.old ≤ S.faults shelf.new }
 {
-    match read_points(alloc, bytes) {
+    match read_points(rt, alloc, bytes) {
         Ok(table) => check_file(alloc, command, &table, shelf),
         Err(ReadFault::Input(fault)) => only_line(input_line(alloc, command.points, fault)),
         Err(ReadFault::Memory) => Err(Stop::Memory),
@@ -69,7 +70,8 @@ fn check_points<'a, S: Shelf>(
 }
 
 // The answer to `checkflat`.
-fn answer_check<'a, S: Shelf>(
+fn answer_check<'a, R: Threads + Sync, S: Shelf>(
+    rt: &R,
     alloc: Global,
     command: &CheckCommand<'a>,
     shelf: &mut S,
@@ -82,7 +84,7 @@ fn answer_check<'a, S: Shelf>(
 {
     let mut bytes = Vec::new(alloc);
     match shelf.load(alloc, command.points, &mut bytes) {
-        Ok(()) => check_points(alloc, command, bytes.as_slice(), shelf),
+        Ok(()) => check_points(rt, alloc, command, bytes.as_slice(), shelf),
         Err(LoadFault::Failed) => Err(Stop::Unread(command.points)),
         Err(LoadFault::TooLong) => only_line(too_long_line(alloc, command.points)),
         Err(LoadFault::Memory) => Err(Stop::Memory),
@@ -127,6 +129,6 @@ pub fn answer_to<'a, R: Threads + Sync, S: Shelf>(
     match command_of(words) {
         None => only_line(wrong_words_line(alloc)),
         Some(Command::Flat(flat)) => answer_flat(rt, alloc, &flat, shelf),
-        Some(Command::Check(command)) => answer_check(alloc, &command, shelf),
+        Some(Command::Check(command)) => answer_check(rt, alloc, &command, shelf),
     }
 }

@@ -116,7 +116,7 @@ pub fn judge_flat<'a, R: Threads + Sync>(
 ) -> Result<Report<'a>, Stop<'a>>
     ensures { OnReport (λ r. IsFlatAnswerOfTable (flat_of flat.now) (points bytes.now) (answer_in r)) (λ w. ⊥) result }
 {
-    match read_points(alloc, bytes) {
+    match read_points(rt, alloc, bytes) {
         Ok(table) => judge_table(rt, alloc, flat, &table),
         Err(ReadFault::Input(fault)) => only_line(input_line(alloc, flat.points, fault)),
         Err(ReadFault::Memory) => Err(Stop::Memory),
