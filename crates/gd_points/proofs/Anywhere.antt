@@ -1,6 +1,6 @@
 -- A record that is read behind one table is read behind any with room: only the row of a fault differs.
 use Rattle.std.proofs.Common.{◌≡◌, ℕ, ◌+◌, ◌≤◌, ◌<◌, List, [], ◌∷◌, ◌++◌, length, map, Option, Some, None, Result, Ok, Err, Bool, true, false, cond, ap, sym, refl, ◌∙◌, arith}
-use Rattle.std.specs.Prelude.{IfSome, ℤ, ◌&&◌, int_le, nat_lt, pos, negsuc, unsigned_abs, nat_eq, if◌then◌else◌}
+use Rattle.std.specs.Prelude.{IfSome, ℤ, ◌&&◌, int_le, nat_lt, pos, negsuc, if◌then◌else◌}
 use Rattle.std.specs.List.{All, list_any}
 use Rattle.std.proofs.lemmas.Bool.Decides.{nat_tests}
 use Rattle.std.proofs.lemmas.List.{append-nil, length-append, length-map}
@@ -18,7 +18,6 @@ use Rattle.gd_points.specs.Rules.{fault}
 use Rattle.gd_points.specs.Table.{Table, empty_table, with_point}
 use Rattle.gd_points.specs.declared.rule.Rule.TheVariants as rule
 use Rattle.gd_points.specs.declared.table.Row.{Row}
-use Rattle.gd_vec.specs.declared.vector.V3.{V3}
 
 -- what the first answer has, the second has too
 abbrev Keeps : {A : Type 0} → Result A InputFault → Result A InputFault → Type 0

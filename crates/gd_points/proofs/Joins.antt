@@ -1,6 +1,6 @@
 -- Names that are added behind others, and the numbers that they get.
 use Rattle.std.proofs.Common.{◌≡◌, ℕ, ◌+◌, ◌≤◌, ◌<◌, List, [], ◌∷◌, ◌++◌, length, get_or, map, Bool, true, false, cond, ◌⊎◌, inl, inr, ap, sym, refl, ◌∙◌, arith, append_assoc}
-use Rattle.std.specs.Prelude.{◌||◌, nat_eq, fold, zero, suc}
+use Rattle.std.specs.Prelude.{◌||◌, nat_eq, zero, suc}
 use Rattle.std.specs.Cmp.Lexicographic.{pointwise, nat_list_eq_equiv}
 use Rattle.std.specs.List.{All, list_any, position_or_len}
 use Rattle.std.proofs.Math.Seq.{get_or-append_seam}

@@ -1,6 +1,6 @@
 -- Two tables joined are a table.
-use Rattle.std.proofs.Common.{◌≡◌, ℕ, ℤ, ◌+◌, ◌≤◌, ◌<◌, List, [], ◌∷◌, ◌++◌, length, get_or, map, true, inl, inr, ap, ap₂, sym, refl, ◌∙◌, arith, rules}
-use Rattle.std.specs.Prelude.{nat_eq, zero, suc}
+use Rattle.std.proofs.Common.{◌≡◌, ℕ, ℤ, ◌+◌, ◌≤◌, ◌<◌, List, [], ◌∷◌, ◌++◌, length, get_or, map, true, inl, inr, ap, ap₂, sym, refl, ◌∙◌, arith}
+use Rattle.std.specs.Prelude.{nat_eq}
 use Rattle.std.specs.Cmp.Lexicographic.{pointwise}
 use Rattle.std.specs.List.{All, Any, IsDistinct}
 use Rattle.std.proofs.lemmas.List.{get_or-append-add, get_or-map, get_or_append_left, length-append, length-map, map-append}
@@ -8,9 +8,9 @@ use Rattle.std.proofs.lemmas.List.Elements.{All-append, All-head, All-map, All-t
 use Rattle.indexmap.specs.IndexSet.{insert_all, insert_key}
 use Rattle.gd_base.specs.Names.{is_name}
 use Rattle.gd_points.proofs.Anywhere.{joined_rows}
-use Rattle.gd_points.proofs.Joins.{from_either, longer_all, number_below, numbers-length}
+use Rattle.gd_points.proofs.Joins.{from_either, longer_all, number_below}
 use Rattle.gd_points.proofs.Used.{spelled_more}
-use Rattle.gd_points.specs.Columns.{AreColumns, HasColumns}
+use Rattle.gd_points.specs.Columns.{AreColumns}
 use Rattle.gd_points.specs.Joined.{joined, numbers_of, renumbered}
 use Rattle.gd_points.specs.Table.{AreNames, HasRows, IsTable, Table}
 use Rattle.gd_points.specs.declared.table.Row.{Row}

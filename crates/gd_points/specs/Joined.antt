@@ -1,5 +1,5 @@
 -- Two tables one behind the other, as of two parts of one file.
-use Rattle.std.specs.Prelude.{ℕ, ◌≡◌, ◌≤◌, ◌+◌, ◌++◌, Bool, false, ◌==◌, List, length, [], ◌∷◌, Result, Ok, get_or, map, nat_eq}
+use Rattle.std.specs.Prelude.{ℕ, ◌≡◌, ◌≤◌, ◌+◌, ◌++◌, Bool, false, ◌==◌, List, length, [], ◌∷◌, Ok, get_or, map, nat_eq}
 use Rattle.std.specs.Cmp.Lexicographic.{pointwise}
 use Rattle.std.specs.List.{list_any, position_or_len}
 use Rattle.csv.specs.Reading.{default_config, records}

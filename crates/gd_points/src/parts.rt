@@ -1,8 +1,8 @@
 // A long points file, read in parts side by side.
 //
-// Only what most files are is read so. Where anything is out of the ordinary the parts give nothing,
-// and the file is read as a whole.
-ghost use Rattle.std.specs.Prelude.{◌≡◌, ◌<◌, ◌≤◌, ◌+◌, false, Ok, IfSome, OnSome, List, ℕ, length, ◌∷◌, [], ◌++◌};
+// Only a file with nothing out of the ordinary is read so. Where a part meets a quote, a second mark, a fault or want of
+// memory, nothing is given, and the file is read as a whole.
+ghost use Rattle.std.specs.Prelude.{◌≡◌, ◌<◌, false, Ok, IfSome};
 ghost use Rattle.std.specs.List.{list_any};
 ghost use Rattle.std.specs.Thread.{IsSync};
 ghost use Rattle.csv.specs.Reading.{default_config, records, strip_bom};
@@ -17,8 +17,9 @@ use gd_base::limits::POINTS;
 use std::alloc::Global;
 use std::thread::{Threads, available_parallelism, join};
 
-/// A part that gets a thread has so many bytes or more, 0.7 ms of work. A thread starts in 0.02 to 0.2 ms.
-const PART: usize = 131_072;
+/// A part that gets a thread has so many bytes or more, 1.5 ms of work. A thread starts in some 0.02 ms where a processor
+/// is idle, and a second table is joined in some quarter of the time in which its lines are read.
+const PART: usize = 262_144;
 
 /// There are at most so many parts.
 const MOST_PARTS: usize = 16;

@@ -138,7 +138,6 @@ impl PointTable {
     }
 
     /// One table of the points of this one and then those of another one, whose features keep their names.
-    #[tactic(auto)]
     pub(crate) fn joined_to(self, alloc: Global, behind: PointTable) -> Result<PointTable, Memory>
         requires { length self.rows + length behind.rows ≤ 200000 }
         ensures { IfOk result (λ t. t ≡ joined self behind) }
