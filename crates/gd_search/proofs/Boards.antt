@@ -1,5 +1,5 @@
 -- The cells of a board.
-use Rattle.std.proofs.Common.{◌≡◌, ◌<◌, ℕ, List, Some, arith, get_or, length, map}
+use Rattle.std.proofs.Common.{◌<◌, ℕ, List, get_or, length, map}
 use Rattle.std.specs.List.{All}
 use Rattle.std.proofs.lemmas.List.Elements.{All-get_or, All-map}
 use Rattle.gd_cells.specs.Meaning.{IsCell, Questions}

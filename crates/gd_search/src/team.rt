@@ -231,19 +231,14 @@ fn await_settled<J: Asked>(place: &OnceLock<Settled<J>>) -> Option<&Settled<J>> 
 }
 
 // Takes what was found in the cell of a row, or else bounds it.
-fn take_settled<J: Asked, T: Task>(
-    task: &T,
-    place: Option<&OnceLock<Settled<J>>>,
-    row: &mut Row,
-)
+fn take_settled<J: Asked, T: Task>(task: &T, place: Option<&OnceLock<Settled<J>>>, row: &mut Row)
     requires same { T.questions task.now ≡ J.questions }
     requires cell { IsCell J.questions row.old.cell }
     ensures { row.new ≡ judged J.questions row.old }
 {
-    if let Some(settled) = place.and_then(await_settled) && settled.row.cell == row.cell {
-        *row = settled.row;
-    } else {
-        bound_row(task, row);
+    match place.and_then(await_settled) {
+        Some(settled) if settled.row.cell == row.cell => *row = settled.row,
+        _ => bound_row(task, row),
     }
 }
 
