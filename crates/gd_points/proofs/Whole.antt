@@ -8,16 +8,22 @@ use Rattle.std.proofs.lemmas.List.Elements.{All-append, All-head, All-map, All-t
 use Rattle.indexmap.specs.IndexSet.{insert_all, insert_key}
 use Rattle.gd_base.specs.Names.{is_name}
 use Rattle.gd_points.proofs.Anywhere.{joined_rows}
+use Rattle.gd_points.proofs.Beside.{kept, rows_back}
 use Rattle.gd_points.proofs.Joins.{from_either, longer_all, number_below}
 use Rattle.gd_points.proofs.Used.{spelled_more}
-use Rattle.gd_points.specs.Columns.{AreColumns}
-use Rattle.gd_points.specs.Joined.{joined, numbers_of, renumbered}
+use Rattle.gd_points.specs.Columns.{AreColumns, HasColumns, label_of, rows_of}
+use Rattle.gd_points.specs.Joined.{joined, numbers_of, renumbered, renumbered_label}
 use Rattle.gd_points.specs.Table.{AreNames, HasRows, IsTable, Table}
+use Rattle.gd_points.specs.declared.table.Label.{Label}
 use Rattle.gd_points.specs.declared.table.Row.{Row}
 use Rattle.gd_vec.specs.Vector.{IsWithin}
 
-pub feature_of_row : (count : ℕ) (rows : List Row) (i : ℕ) (d : Row) → i < length rows → All (λ (r : Row). r.feature < count) rows → (get_or rows i d).feature < count
-feature_of_row count rows i d less all = all i d less
+pub feature_of_label : (count : ℕ) (labels : List Label) (i : ℕ) (d : Label) → i < length labels → All (λ (l : Label). l.feature < count) labels → (get_or labels i d).feature < count
+feature_of_label count labels i d less all = all i d less
+
+-- the labels of rows have their features
+pub labels_below : (count : ℕ) (labels : List Label) (rows : List Row) → labels ≡ map label_of rows → All (λ (r : Row). r.feature < count) rows → All (λ (l : Label). l.feature < count) labels
+labels_below count labels rows is all = rw is (All-map (λ (l : Label). l.feature < count) label_of rows all)
 
 spelled : (us ks : List (List ℕ)) → AreNames ks → AreNames us → AreNames (insert_all (pointwise nat_eq) ks us)
 spelled [] ks all more = all
@@ -66,6 +72,16 @@ joined_table t u room distinct is more =
       within = All-append (λ (r : Row). IsWithin 8000000 r.at) t.rows _ is.within (All-map (λ (r : Row). IsWithin 8000000 r.at) (renumbered (numbers_of t.names u.names)) u.rows more.within);
     }
 
+-- the labels of rows with other numbers of features
+labels_renumbered : (numbers : List ℕ) (rows : List Row) → map label_of (map (renumbered numbers) rows) ≡ map (renumbered_label numbers) (map label_of rows)
+labels_renumbered numbers [] = refl
+labels_renumbered numbers (row ∷ rows) = ap (λ ls. label_of (renumbered numbers row) ∷ ls) (labels_renumbered numbers rows)
+
+pub joined_labels : (t u : Table) (ls more all : List Label) → ls ≡ map label_of t.rows → more ≡ map label_of u.rows → all ≡ ls ++ map (renumbered_label (numbers_of t.names u.names)) more → all ≡ map label_of (joined t u).rows
+joined_labels t u ls more all first second both =
+    both ∙ ap₂ ◌++◌ first (ap (map (renumbered_label (numbers_of t.names u.names))) second ∙ sym (labels_renumbered (numbers_of t.names u.names) u.rows))
+    ∙ sym (map-append label_of t.rows (map (renumbered (numbers_of t.names u.names)) u.rows))
+
 -- the coordinates of rows stay with other numbers of features
 column_kept : (f : Row → ℤ) (numbers : List ℕ) → ((r : Row) → f (renumbered numbers r) ≡ f r) → (rows : List Row) → map f (map (renumbered numbers) rows) ≡ map f rows
 column_kept f numbers same [] = refl
@@ -81,3 +97,17 @@ joined_columns t u xs ys zs xs' ys' zs' ax ay az first second x y z = record {
   y = column_joined (λ (r : Row). r.at.y) (numbers_of t.names u.names) (λ r. refl) ys ys' ay t.rows u.rows first.y second.y y;
   z = column_joined (λ (r : Row). r.at.z) (numbers_of t.names u.names) (λ r. refl) zs zs' az t.rows u.rows first.z second.z z;
 }
+
+pub joined_back : (t u : Table) (ls more all : List Label) (xs ys zs xs' ys' zs' ax ay az : List ℤ) → HasColumns t ls xs ys zs → HasColumns u more xs' ys' zs'
+    → all ≡ ls ++ map (renumbered_label (numbers_of t.names u.names)) more → ax ≡ xs ++ xs' → ay ≡ ys ++ ys' → az ≡ zs ++ zs' → rows_of all ax ay az ≡ (joined t u).rows
+joined_back t u ls more all xs ys zs xs' ys' zs' ax ay az first second labels x y z =
+    rows_back all ax ay az (joined t u).rows (joined_labels t u ls more all first.kept second.kept labels)
+    (joined_columns t u xs ys zs xs' ys' zs' ax ay az first.columns second.columns x y z)
+
+-- and the table of both is kept as they are
+pub joined_kept : (t u : Table) (names : List (List ℕ)) (ls more all : List Label) (xs ys zs xs' ys' zs' ax ay az : List ℤ) → HasColumns t ls xs ys zs → HasColumns u more xs' ys' zs'
+    → all ≡ ls ++ map (renumbered_label (numbers_of t.names u.names)) more → ax ≡ xs ++ xs' → ay ≡ ys ++ ys' → az ≡ zs ++ zs'
+    → length t.rows + length u.rows ≤ 200000 → names ≡ (joined t u).names → IsDistinct (pointwise nat_eq) names → HasColumns (record { rows = rows_of all ax ay az; names = names }) all ax ay az
+joined_kept t u names ls more all xs ys zs xs' ys' zs' ax ay az first second labels x y z room same distinct =
+    rw same (kept (joined t u) all ax ay az (joined_table t u room (rw same at distinct) first.table second.table)
+    (joined_labels t u ls more all first.kept second.kept labels) (joined_columns t u xs ys zs xs' ys' zs' ax ay az first.columns second.columns x y z))

@@ -6,6 +6,7 @@ use Rattle.csv.specs.Reading.{default_config, records}
 use Rattle.indexmap.specs.IndexSet.{insert_all, insert_key}
 use Rattle.gd_points.specs.Points.{with_records}
 use Rattle.gd_points.specs.Table.{Table, empty_table}
+use Rattle.gd_points.specs.declared.table.Label.{Label}
 use Rattle.gd_points.specs.declared.table.Row.{Row}
 
 -- the numbers that names get which are added in order behind these
@@ -16,6 +17,10 @@ numbers_of names (name ∷ more) = position_or_len (pointwise nat_eq name) names
 -- a row whose feature has another number
 abbrev pub renumbered : List ℕ → Row → Row
 renumbered numbers row = record { feature = get_or numbers row.feature 0; group = row.group; at = row.at }
+
+-- the label of such a row
+abbrev pub renumbered_label : List ℕ → Label → Label
+renumbered_label numbers label = record { feature = get_or numbers label.feature 0; group = label.group }
 
 -- a table with the points of another one behind its own, whose features keep their names
 abbrev pub joined : Table → Table → Table

@@ -1,5 +1,5 @@
 // The coordinates of points, axis by axis.
-ghost use Rattle.std.specs.Prelude.{◌≡◌, ◌≤◌, ◌<◌, ◌++◌, [], ◌∷◌, OnOk, vec_capacity, vec_len, unsigned_abs};
+ghost use Rattle.std.specs.Prelude.{◌≡◌, ◌≤◌, ◌<◌, ◌++◌, [], ◌∷◌, OnOk, vec_capacity, vec_len, unsigned_abs, get_or, pos};
 ghost use Rattle.gd_vec.specs.Vector.{IsWithin};
 
 use gd_vec::V3;
@@ -72,6 +72,20 @@ impl ColumnLists {
         self.x.push_reserved(short(at.x));
         self.y.push_reserved(short(at.y));
         self.z.push_reserved(short(at.z));
+    }
+
+    // The coordinates of a point.
+    pub fn at(&self, at: usize) -> V3
+        requires x { at < vec_len self.now.x }
+        requires y { at < vec_len self.now.y }
+        requires z { at < vec_len self.now.z }
+        ensures { result ≡ record { x = get_or self.now.x.items at (pos 0); y = get_or self.now.y.items at (pos 0); z = get_or self.now.z.items at (pos 0) } }
+    {
+        V3 {
+            x: i64::from(self.x[at]),
+            y: i64::from(self.y[at]),
+            z: i64::from(self.z[at]),
+        }
     }
 
     // Adds the points of others behind these.

@@ -14,6 +14,7 @@ use crate::PointTable;
 use crate::read::{read_records, records_in, without_mark};
 use csv::ByteRecord;
 use gd_base::limits::POINTS;
+use memchr::memchr;
 use std::alloc::Global;
 use std::thread::{Threads, available_parallelism, join};
 
@@ -34,7 +35,7 @@ pub fn read_in_parts<R: Threads + Sync>(rt: &R, alloc: Global, bytes: &[u8]) -> 
     }
     let body = behind_header(without_mark(bytes))?;
     let table = read_split(rt, alloc, body, halvings)?;
-    if table.rows().is_empty() {
+    if table.is_empty() {
         return None;
     }
     Some(table)
@@ -106,7 +107,7 @@ fn cut(lines: &[u8]) -> Option<(&[u8], &[u8])>
 fn both(alloc: Global, front: PointTable, back: PointTable) -> Option<PointTable>
     ensures { IfSome result (λ t. AreJoined front back t) }
 {
-    if front.rows().len() + back.rows().len() > POINTS {
+    if front.len() + back.len() > POINTS {
         return None;
     }
     front.joined_to(alloc, back).ok()
@@ -128,7 +129,7 @@ fn read_part(alloc: Global, lines: &[u8]) -> Option<PointTable>
 fn has_quote(bytes: &[u8]) -> bool
     ensures { result ≡ list_any is_quote bytes.now }
 {
-    bytes.contains(&b'"')
+    memchr(b'"', bytes).is_some()
 }
 
 fn read_lines(alloc: Global, lines: &[u8]) -> Option<PointTable>

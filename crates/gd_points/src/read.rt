@@ -71,7 +71,7 @@ fn read_whole(alloc: Global, bytes: &[u8]) -> Result<PointTable, ReadFault>
     let mut entry = ByteRecord::new(alloc);
     read_header(&mut reader, &mut entry)?;
     let table = read_records(alloc, &mut reader, &mut entry)?;
-    if table.rows().is_empty() {
+    if table.is_empty() {
         return Err(Rule::NoPoints.broken_at(2, 0));
     }
     Ok(table)
@@ -161,7 +161,7 @@ fn are_columns(fields: &Fields<'_>) -> bool
 fn add_record(alloc: Global, table: &mut PointTable, entry: &ByteRecord) -> Result<(), ReadFault>
     ensures { Adds table.new result (with_record table.old (fields_of entry.now)) }
 {
-    let count = table.rows().len();
+    let count = table.len();
     let row = count as u32 + 2;
     let Some(fields) = fields_in(entry) else {
         return Err(Rule::Fields.broken_at(row, 0));

@@ -1,7 +1,7 @@
 // The table of points.
-ghost use Rattle.std.specs.Prelude.{◌≡◌, ◌<◌, ◌≤◌, ◌^◌, [], length, OnOk, OnErr, slice_get, get_or, Some, IfOk, IfSome, map, position, nat_eq, true, ◌+◌};
+ghost use Rattle.std.specs.Prelude.{◌≡◌, ◌<◌, ◌≤◌, ◌^◌, [], length, OnOk, OnErr, slice_get, get_or, Some, IfOk, IfSome, map, position, nat_eq, true, ◌+◌, ◌==◌};
 ghost use Rattle.indexmap.specs.IndexSet.{insert_all};
-ghost use Rattle.gd_points.specs.Joined.{numbers_of, renumbered};
+ghost use Rattle.gd_points.specs.Joined.{numbers_of, renumbered_label};
 ghost use Rattle.gd_base.specs.Names.{is_name};
 ghost use Rattle.std.specs.Cmp.Lexicographic.{pointwise};
 ghost use Rattle.std.specs.List.{All, Any, IsDistinct};
@@ -24,24 +24,31 @@ pub struct Row {
     pub at: V3,
 }
 
+// The feature and the group of a point, by their numbers.
+#[derive(Clone, Copy)]
+struct Label {
+    feature: u32,
+    group: u32,
+}
+
 /// The points of a part, in order, and the names of their features in the order of their first points.
 /// A table has at most 200,000 points. Contracts see it as a `Table` of `specs/Table.antt`.
 #[derive(Drop)]
 pub struct PointTable {
-    rows: Vec<Row>,
+    labels: Vec<Label>,
     columns: ColumnLists,
     names: IndexSet<Name>,
 }
 
 impl Model for PointTable {
-    ghost use Rattle.gd_points.specs.Columns.{HasColumns};
+    ghost use Rattle.gd_points.specs.Columns.{HasColumns, rows_of};
     ghost use Rattle.gd_points.specs.Table.{Table};
 
     ghost Value = { Table };
 
-    ghost view = { λ t. record { rows = t.rows.items; names = t.names.keys } };
+    ghost view = { λ t. record { rows = rows_of t.labels.items t.columns.x.items t.columns.y.items t.columns.z.items; names = t.names.keys } };
 
-    ghost invariant = { λ t. HasColumns (record { rows = t.rows.items; names = t.names.keys }) t.columns.x.items t.columns.y.items t.columns.z.items };
+    ghost invariant = { λ t. HasColumns (record { rows = rows_of t.labels.items t.columns.x.items t.columns.y.items t.columns.z.items; names = t.names.keys }) t.labels.items t.columns.x.items t.columns.y.items t.columns.z.items };
 }
 
 // Adds names behind others, and gives the numbers that they get.
@@ -64,21 +71,21 @@ fn numbers_behind(
     Ok(numbers)
 }
 
-fn renumber_row(row: &mut Row, numbers: &[u32])
-    requires { row.old.feature < length numbers.now }
-    ensures { row.new ≡ renumbered numbers.now row.old }
+fn renumber_label(label: &mut Label, numbers: &[u32])
+    requires { label.old.feature < length numbers.now }
+    ensures { label.new ≡ renumbered_label numbers.now label.old }
 {
-    row.feature = numbers[row.feature as usize];
+    label.feature = numbers[label.feature as usize];
 }
 
-// Gives the features of rows these numbers.
-#[tactic(auto, using(crate::proofs::Whole::feature_of_row))]
-fn renumber(rows: &mut [Row], numbers: &[u32])
-    requires { All (λ row. row.feature < length numbers.now) rows.old }
-    ensures { rows.new ≡ map (renumbered numbers.now) rows.old }
+// Gives the features of labels these numbers.
+#[tactic(auto, using(crate::proofs::Whole::feature_of_label))]
+fn renumber(labels: &mut [Label], numbers: &[u32])
+    requires { All (λ label. label.feature < length numbers.now) labels.old }
+    ensures { labels.new ≡ map (renumbered_label numbers.now) labels.old }
 {
-    for row in rows.iter_mut() {
-        renumber_row(row, numbers);
+    for label in labels.iter_mut() {
+        renumber_label(label, numbers);
     }
 }
 
@@ -91,7 +98,7 @@ impl PointTable {
         ensures { result ≡ empty_table }
     {
         PointTable {
-            rows: Vec::new(alloc),
+            labels: Vec::new(alloc),
             columns: ColumnLists::new(alloc),
             names: IndexSet::new(alloc),
         }
@@ -107,15 +114,14 @@ impl PointTable {
         ensures ok { OnOk result (self.new ≡ with_point self.old name group at) }
         ensures err { OnErr result (self.new ≡ self.old) }
     {
-        self.rows.reserve(1)?;
+        self.labels.reserve(1)?;
         self.columns.reserve()?;
         let (feature, _) = self.names.insert_full(name)?;
-        let row = Row {
+        let label = Label {
             feature: feature as u32,
             group,
-            at,
         };
-        self.rows.push_reserved(row);
+        self.labels.push_reserved(label);
         self.columns.push_reserved(&at);
         Ok(())
     }
@@ -130,9 +136,9 @@ impl PointTable {
         ensures ok { OnOk result (self.new ≡ with_point self.old (get_or self.old.names feature []) group at) }
         ensures err { OnErr result (self.new ≡ self.old) }
     {
-        self.rows.reserve(1)?;
+        self.labels.reserve(1)?;
         self.columns.reserve()?;
-        self.rows.push_reserved(Row { feature, group, at });
+        self.labels.push_reserved(Label { feature, group });
         self.columns.push_reserved(&at);
         Ok(())
     }
@@ -143,21 +149,21 @@ impl PointTable {
         ensures { IfOk result (λ t. t ≡ joined self behind) }
     {
         let PointTable {
-            mut rows,
+            mut labels,
             mut columns,
             mut names,
         } = self;
         let PointTable {
-            rows: mut more_rows,
+            labels: mut more_labels,
             columns: mut more_columns,
             names: more_names,
         } = behind;
         let numbers = numbers_behind(alloc, &mut names, more_names)?;
-        renumber(more_rows.as_mut_slice(), numbers.as_slice());
-        rows.append(&mut more_rows)?;
+        renumber(more_labels.as_mut_slice(), numbers.as_slice());
+        labels.append(&mut more_labels)?;
         columns.append(&mut more_columns)?;
         Ok(PointTable {
-            rows,
+            labels,
             columns,
             names,
         })
@@ -168,29 +174,51 @@ impl PointTable {
         ensures known { IfSome result (λ feature. slice_get self.now.names feature ≡ Some name.now) }
         ensures name { IfSome result (λ _. is_name name.now ≡ true) }
     {
-        let row = self.rows.last()?;
-        let known = self.name(row.feature);
+        let label = self.labels.last()?;
+        let known = self.name(label.feature);
         if known.bytes() == name {
-            Some(row.feature)
+            Some(label.feature)
         } else {
             None
         }
     }
 
-    /// The points in order, with the range of each of their numbers.
-    pub fn rows(&self) -> &Vec<Row>
-        ensures rows { result.now.items ≡ self.now.rows }
-        ensures few { length result.now.items ≤ 200000 }
-        ensures features { All (λ row. row.feature < length self.now.names) result.now.items }
-        ensures groups { All (λ row. row.group ≤ 999) result.now.items }
-        ensures within { All (λ row. IsWithin 8000000 row.at) result.now.items }
+    /// How many points there are.
+    #[inline]
+    pub fn len(&self) -> usize
+        ensures count { result ≡ length self.now.rows }
+        ensures few { result ≤ 200000 }
     {
-        &self.rows
+        self.labels.len()
+    }
+
+    /// Whether there are no points.
+    pub fn is_empty(&self) -> bool
+        ensures { result ≡ length self.now.rows == 0 }
+    {
+        self.labels.is_empty()
+    }
+
+    /// A point by its place, from 0, with the range of each of its numbers. `None` where there is none.
+    pub fn row(&self, at: usize) -> Option<Row>
+        ensures row { result ≡ slice_get self.now.rows at }
+        ensures features { All (λ row. row.feature < length self.now.names) self.now.rows }
+        ensures groups { All (λ row. row.group ≤ 999) self.now.rows }
+        ensures within { All (λ row. IsWithin 8000000 row.at) self.now.rows }
+    {
+        let label = self.labels.get(at)?;
+        Some(Row {
+            feature: label.feature,
+            group: label.group,
+            at: self.columns.at(at),
+        })
     }
 
     /// The coordinates of the points in order.
     pub fn columns(&self) -> Columns<'_>
-        ensures { AreColumns result.x.now result.y.now result.z.now self.now.rows }
+        ensures columns { AreColumns result.x.now result.y.now result.z.now self.now.rows }
+        ensures few { length self.now.rows ≤ 200000 }
+        ensures within { All (λ row. IsWithin 8000000 row.at) self.now.rows }
     {
         Columns {
             x: self.columns.x.as_slice(),

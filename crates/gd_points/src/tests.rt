@@ -92,11 +92,11 @@ fn a_table(rt: HostRuntime) {
         (0, 1, (2, 3, 4)),
     ];
     let table = read_points(&rt, rt.alloc(), file).expect(&rt, "a table");
-    assert_eq!(rt; table.rows().len(), rows.len());
+    assert_eq!(rt; table.len(), rows.len());
     for (i, (feature, group, (x, y, z))) in rows.into_iter().enumerate() {
         let at = V3 { x, y, z };
         assert_eq!(rt;
-            table.rows().get(i).copied(),
+            table.row(i),
             Some(Row { feature, group, at })
         );
     }
@@ -118,7 +118,7 @@ fn the_most_points(rt: HostRuntime) {
         file.extend_from_slice(b"a,0,1,2,3\n").expect(&rt, "memory");
     }
     let table = read_points(&rt, rt.alloc(), file.as_slice()).expect(&rt, "a table");
-    assert_eq!(rt; table.rows().len(), 200_000);
+    assert_eq!(rt; table.len(), 200_000);
     let fewer = file.len();
     file.extend_from_slice(b"a,0,1,2\n").expect(&rt, "memory");
     assert_eq!(rt;
@@ -149,11 +149,11 @@ fn lines_in_parts(rt: HostRuntime) {
     ];
     for halvings in 0..3 {
         let table = read_split(&rt, rt.alloc(), lines, halvings).expect(&rt, "a table");
-        assert_eq!(rt; table.rows().len(), rows.len());
+        assert_eq!(rt; table.len(), rows.len());
         for (i, (feature, group, (x, y, z))) in rows.into_iter().enumerate() {
             let at = V3 { x, y, z };
             assert_eq!(rt;
-                table.rows().get(i).copied(),
+                table.row(i),
                 Some(Row { feature, group, at })
             );
         }
