@@ -141,9 +141,9 @@ pub fn span_at(b: &DirBox, leads: Leads, points: &Points<'_>, at: usize) -> Span
     requires x { leads.x ≡ true → AreOne b.now.lo.x b.now.hi.x }
     requires y { leads.y ≡ true → AreOne b.now.lo.y b.now.hi.y }
     requires z { leads.z ≡ true → AreOne b.now.lo.z b.now.hi.z }
-    requires at { at < length points.now.rows.now }
-    ensures lo { result.lo ≡ get_or (lows b.now points.now.rows.now) at (pos 0) }
-    ensures hi { result.hi ≡ get_or (highs b.now points.now.rows.now) at (pos 0) }
+    requires at { at < length points.now.table.now.rows }
+    ensures lo { result.lo ≡ get_or (lows b.now points.now.table.now.rows) at (pos 0) }
+    ensures hi { result.hi ≡ get_or (highs b.now points.now.table.now.rows) at (pos 0) }
     ensures lo_size { unsigned_abs result.lo ≤ 3 * 2 ^ 54 }
     ensures hi_size { unsigned_abs result.hi ≤ 3 * 2 ^ 54 }
 {
@@ -174,13 +174,13 @@ fn ends_by(
     requires z { leads.z ≡ true → AreOne b.now.lo.z b.now.hi.z }
     requires from { 0 < from }
     requires order { from ≤ to }
-    requires to { to ≤ length points.now.rows.now }
-    requires lo { before.lo ≡ greatest (take from (lows b.now points.now.rows.now)) }
-    requires hi { before.hi ≡ least (take from (highs b.now points.now.rows.now)) }
+    requires to { to ≤ length points.now.table.now.rows }
+    requires lo { before.lo ≡ greatest (take from (lows b.now points.now.table.now.rows)) }
+    requires hi { before.hi ≡ least (take from (highs b.now points.now.table.now.rows)) }
     requires lo_size { unsigned_abs before.lo ≤ 3 * 2 ^ 54 }
     requires hi_size { unsigned_abs before.hi ≤ 3 * 2 ^ 54 }
-    ensures lo { result.lo ≡ greatest (take to (lows b.now points.now.rows.now)) }
-    ensures hi { result.hi ≡ least (take to (highs b.now points.now.rows.now)) }
+    ensures lo { result.lo ≡ greatest (take to (lows b.now points.now.table.now.rows)) }
+    ensures hi { result.hi ≡ least (take to (highs b.now points.now.table.now.rows)) }
     ensures lo_more { before.lo ≤ℤ result.lo }
     ensures hi_less { result.hi ≤ℤ before.hi }
     ensures lo_size { unsigned_abs result.lo ≤ 3 * 2 ^ 54 }
@@ -204,13 +204,13 @@ fn ends_to(b: &DirBox, points: &Points<'_>, before: Span, from: usize, to: usize
     requires directions { IsBox b.now }
     requires from { 0 < from }
     requires order { from ≤ to }
-    requires to { to ≤ length points.now.rows.now }
-    requires lo { before.lo ≡ greatest (take from (lows b.now points.now.rows.now)) }
-    requires hi { before.hi ≡ least (take from (highs b.now points.now.rows.now)) }
+    requires to { to ≤ length points.now.table.now.rows }
+    requires lo { before.lo ≡ greatest (take from (lows b.now points.now.table.now.rows)) }
+    requires hi { before.hi ≡ least (take from (highs b.now points.now.table.now.rows)) }
     requires lo_size { unsigned_abs before.lo ≤ 3 * 2 ^ 54 }
     requires hi_size { unsigned_abs before.hi ≤ 3 * 2 ^ 54 }
-    ensures lo { result.lo ≡ greatest (take to (lows b.now points.now.rows.now)) }
-    ensures hi { result.hi ≡ least (take to (highs b.now points.now.rows.now)) }
+    ensures lo { result.lo ≡ greatest (take to (lows b.now points.now.table.now.rows)) }
+    ensures hi { result.hi ≡ least (take to (highs b.now points.now.table.now.rows)) }
     ensures lo_more { before.lo ≤ℤ result.lo }
     ensures hi_less { result.hi ≤ℤ before.hi }
     ensures lo_size { unsigned_abs result.lo ≤ 3 * 2 ^ 54 }
@@ -254,16 +254,16 @@ fn lesser(best: Extreme, value: i64, from: usize) -> Extreme
 // The extremes of the points along the directions of a box, and the blocks that have them first.
 pub fn extremes_along(b: &DirBox, points: &Points<'_>) -> Extremes
     requires { IsBox b.now }
-    ensures greatest_lo { result.farthest.value ≡ greatest (lows b.now points.now.rows.now) }
-    ensures farthest { All (λ value. int_eq result.farthest.value value ≡ false) (take result.farthest.from (lows b.now points.now.rows.now)) }
-    ensures least_hi { result.nearest.value ≡ least (highs b.now points.now.rows.now) }
-    ensures nearest { All (λ value. int_eq result.nearest.value value ≡ false) (take result.nearest.from (highs b.now points.now.rows.now)) }
+    ensures greatest_lo { result.farthest.value ≡ greatest (lows b.now points.now.table.now.rows) }
+    ensures farthest { All (λ value. int_eq result.farthest.value value ≡ false) (take result.farthest.from (lows b.now points.now.table.now.rows)) }
+    ensures least_hi { result.nearest.value ≡ least (highs b.now points.now.table.now.rows) }
+    ensures nearest { All (λ value. int_eq result.nearest.value value ≡ false) (take result.nearest.from (highs b.now points.now.table.now.rows)) }
     ensures lo_size { unsigned_abs result.farthest.value ≤ 3 * 2 ^ 54 }
     ensures hi_size { unsigned_abs result.nearest.value ≤ 3 * 2 ^ 54 }
-    ensures lo_place { result.farthest.from ≤ length points.now.rows.now }
-    ensures hi_place { result.nearest.from ≤ length points.now.rows.now }
+    ensures lo_place { result.farthest.from ≤ length points.now.table.now.rows }
+    ensures hi_place { result.nearest.from ≤ length points.now.table.now.rows }
 {
-    let count = points.rows.len();
+    let count = points.table.len();
     let here = Extreme { value: 0, from: 0 };
     let mut farthest = here;
     let mut nearest = here;
@@ -285,13 +285,13 @@ pub fn extremes_along(b: &DirBox, points: &Points<'_>) -> Extremes
 // The first point that has this least value, where no point before has it.
 pub fn first_low(b: &DirBox, points: &Points<'_>, far: Extreme) -> usize
     requires directions { IsBox b.now }
-    requires before { All (λ value. int_eq far.value value ≡ false) (take far.from (lows b.now points.now.rows.now)) }
+    requires before { All (λ value. int_eq far.value value ≡ false) (take far.from (lows b.now points.now.table.now.rows)) }
     requires size { unsigned_abs far.value ≤ 3 * 2 ^ 54 }
-    requires from { far.from ≤ length points.now.rows.now }
-    ensures place { result ≡ place_of far.value (lows b.now points.now.rows.now) }
-    ensures inside { result ≤ length points.now.rows.now }
+    requires from { far.from ≤ length points.now.table.now.rows }
+    ensures place { result ≡ place_of far.value (lows b.now points.now.table.now.rows) }
+    ensures inside { result ≤ length points.now.table.now.rows }
 {
-    let count = points.rows.len();
+    let count = points.table.len();
     for at in far.from..count {
         if span_at(b, NO_LEAD, points, at).lo == far.value {
             return at;
@@ -303,13 +303,13 @@ pub fn first_low(b: &DirBox, points: &Points<'_>, far: Extreme) -> usize
 // The first point that has this greatest value, where no point before has it.
 pub fn first_high(b: &DirBox, points: &Points<'_>, near: Extreme) -> usize
     requires directions { IsBox b.now }
-    requires before { All (λ value. int_eq near.value value ≡ false) (take near.from (highs b.now points.now.rows.now)) }
+    requires before { All (λ value. int_eq near.value value ≡ false) (take near.from (highs b.now points.now.table.now.rows)) }
     requires size { unsigned_abs near.value ≤ 3 * 2 ^ 54 }
-    requires from { near.from ≤ length points.now.rows.now }
-    ensures place { result ≡ place_of near.value (highs b.now points.now.rows.now) }
-    ensures inside { result ≤ length points.now.rows.now }
+    requires from { near.from ≤ length points.now.table.now.rows }
+    ensures place { result ≡ place_of near.value (highs b.now points.now.table.now.rows) }
+    ensures inside { result ≤ length points.now.table.now.rows }
 {
-    let count = points.rows.len();
+    let count = points.table.len();
     for at in near.from..count {
         if span_at(b, NO_LEAD, points, at).hi == near.value {
             return at;

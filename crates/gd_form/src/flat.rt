@@ -66,7 +66,7 @@ fn are_parted(b: &DirBox, lo: i64, hi: i64, tolerance: u32) -> bool
 pub fn first_evidence_in(b: &DirBox, points: &Points<'_>, tolerance: u32) -> Option<Evidence>
     requires directions { IsBox b.now }
     requires tolerance { tolerance ≤ 16000000 }
-    ensures { result ≡ first_evidence points.now.rows.now tolerance b.now }
+    ensures { result ≡ first_evidence points.now.table.now.rows tolerance b.now }
 {
     let extremes = extremes_along(b, points);
     if are_parted(
@@ -84,13 +84,13 @@ pub fn first_evidence_in(b: &DirBox, points: &Points<'_>, tolerance: u32) -> Opt
 // The evidence of the first points that have these extremes.
 fn evidence_at(b: &DirBox, points: &Points<'_>, extremes: Extremes) -> Evidence
     requires directions { IsBox b.now }
-    requires farthest { All (λ value. int_eq extremes.farthest.value value ≡ false) (take extremes.farthest.from (lows b.now points.now.rows.now)) }
-    requires nearest { All (λ value. int_eq extremes.nearest.value value ≡ false) (take extremes.nearest.from (highs b.now points.now.rows.now)) }
+    requires farthest { All (λ value. int_eq extremes.farthest.value value ≡ false) (take extremes.farthest.from (lows b.now points.now.table.now.rows)) }
+    requires nearest { All (λ value. int_eq extremes.nearest.value value ≡ false) (take extremes.nearest.from (highs b.now points.now.table.now.rows)) }
     requires lo_size { unsigned_abs extremes.farthest.value ≤ 3 * 2 ^ 54 }
     requires hi_size { unsigned_abs extremes.nearest.value ≤ 3 * 2 ^ 54 }
-    requires lo_place { extremes.farthest.from ≤ length points.now.rows.now }
-    requires hi_place { extremes.nearest.from ≤ length points.now.rows.now }
-    ensures { result ≡ evidence_of (place_of extremes.farthest.value (lows b.now points.now.rows.now)) (place_of extremes.nearest.value (highs b.now points.now.rows.now)) }
+    requires lo_place { extremes.farthest.from ≤ length points.now.table.now.rows }
+    requires hi_place { extremes.nearest.from ≤ length points.now.table.now.rows }
+    ensures { result ≡ evidence_of (place_of extremes.farthest.value (lows b.now points.now.table.now.rows)) (place_of extremes.nearest.value (highs b.now points.now.table.now.rows)) }
 {
     let far = first_low(b, points, extremes.farthest);
     let near = first_high(b, points, extremes.nearest);
@@ -104,18 +104,18 @@ fn evidence_at(b: &DirBox, points: &Points<'_>, extremes: Extremes) -> Evidence
 // Whether this is the number of a point, from 1.
 #[inline]
 fn names_a_point(number: u32, points: &Points<'_>) -> bool
-    ensures { result ≡ is_point points.now.rows.now number }
+    ensures { result ≡ is_point points.now.table.now.rows number }
 {
-    1 <= number && number as usize <= points.rows.len()
+    1 <= number && number as usize <= points.table.len()
 }
 
 // Whether the points at two places, from 0, part a box.
 fn places_part(b: &DirBox, points: &Points<'_>, tolerance: u32, far: usize, near: usize) -> bool
     requires directions { IsBox b.now }
     requires tolerance { tolerance ≤ 16000000 }
-    requires far { far < length points.now.rows.now }
-    requires near { near < length points.now.rows.now }
-    ensures { result ≡ parts points.now.rows.now tolerance b.now far near }
+    requires far { far < length points.now.table.now.rows }
+    requires near { near < length points.now.table.now.rows }
+    ensures { result ≡ parts points.now.table.now.rows tolerance b.now far near }
 {
     let lo = span_at(b, NO_LEAD, points, far).lo;
     let hi = span_at(b, NO_LEAD, points, near).hi;
@@ -126,7 +126,7 @@ fn places_part(b: &DirBox, points: &Points<'_>, tolerance: u32, far: usize, near
 pub fn is_refuted_at(b: &DirBox, points: &Points<'_>, tolerance: u32, evidence: &Evidence) -> bool
     requires directions { IsBox b.now }
     requires tolerance { tolerance ≤ 16000000 }
-    ensures { result ≡ is_refuted points.now.rows.now tolerance b.now evidence.now }
+    ensures { result ≡ is_refuted points.now.table.now.rows tolerance b.now evidence.now }
 {
     evidence.condition == FLATNESS
         && names_a_point(evidence.a, points)
@@ -145,52 +145,46 @@ mod tests {
     use super::*;
     use gd_cells::root_cell;
     use gd_dir::{FormShape, dir_box};
-    use gd_points::{Columns, Row};
-    use gd_vec::V3;
+    use crate::task::flat_task;
+    use gd_points::read_points;
+    use std::alloc::Global;
+    use std::thread::Threads;
 
-    // A point of the one feature.
-    fn row(x: i64, y: i64, z: i64) -> Row
-        ensures { result.at ≡ record { x = x; y = y; z = z } }
-    {
-        Row {
-            feature: 0,
-            group: 0,
-            at: V3 { x, y, z },
-        }
-    }
-
-    // The first evidence against a whole face for a corner of a cube of 1,000 units, to 10 units.
-    fn evidence_against(root: u32) -> Option<Evidence>
+    // The first evidence against a whole face for the points of a file, to 10 units.
+    fn evidence_against<R: Threads + Sync>(
+        rt: &R,
+        alloc: Global,
+        file: &[u8],
+        root: u32,
+    ) -> Option<Evidence>
         requires first { 1 ≤ root }
         requires last { root ≤ 3 }
     {
-        let corner = Points {
-            rows: &[
-                row(0, 0, 0),
-                row(1000, 0, 0),
-                row(0, 1000, 0),
-                row(0, 0, 1000),
-            ],
-            columns: Columns {
-                x: &[0, 1000, 0, 0],
-                y: &[0, 0, 1000, 0],
-                z: &[0, 0, 0, 1000],
-            },
-        };
+        let table = read_points(rt, alloc, file).ok()?;
+        if table.is_empty() {
+            return None;
+        }
         let face = dir_box(FormShape::Flat, &root_cell(root));
-        first_evidence_in(&face, &corner, 10)
+        first_evidence_in(&face, &flat_task(&table, 10).points, 10)
     }
 
-    // By hand: along a face's own axis its point lies at 1,000 at least, and the first point at 0. No other point is below 0 throughout.
+    // By hand, for a corner of a cube of 1,000 units: along a face's own axis its point lies at 1,000 at least, and the first point at 0.
+    // No other point is below 0 throughout.
     #[test]
     fn faces(rt: HostRuntime) {
+        let corner =
+            b"feature,group,x,y,z\na,0,0,0,0\na,0,1000,0,0\na,0,0,1000,0\na,0,0,0,1000\n";
         for (root, far) in [(1, 2), (2, 3), (3, 4)] {
             let want = Evidence {
                 condition: 1,
                 a: far,
                 b: 1,
             };
-            assert_eq!(rt; evidence_against(root), Some(want), "{root}");
+            assert_eq!(rt;
+                evidence_against(&rt, rt.alloc(), corner, root),
+                Some(want),
+                "{root}"
+            );
         }
     }
 }

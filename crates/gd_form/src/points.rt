@@ -1,21 +1,21 @@
-// The points of a task: their rows, and beside these their coordinates axis by axis.
+// The points of a task: their table, and beside it their coordinates axis by axis.
 ghost use Rattle.std.specs.Prelude.{◌≡◌, ◌<◌, ◌≤◌, ◌*◌, ◌^◌, length};
 ghost use Rattle.std.specs.List.{All};
 ghost use Rattle.gd_form.specs.FlatTests.{point_at};
 ghost use Rattle.gd_points.specs.Columns.{AreColumns};
 ghost use Rattle.gd_vec.specs.Vector.{IsWithin};
 
-use gd_points::{Columns, Row};
+use gd_points::{Columns, PointTable};
 
-/// The points that a task judges, at least one. Its loops over all of them read the columns.
+/// The points that a task judges, at least one: all of a table. Its loops over them read the columns.
 #[derive(Clone, Copy)]
 pub struct Points<'a> {
-    pub rows: &'a [Row],
+    pub table: &'a PointTable,
     pub columns: Columns<'a>,
-    ghost some: { 0 < length rows.now },
-    ghost few: { length rows.now ≤ 200000 },
-    ghost within: { All (λ row. IsWithin 8000000 row.at) rows.now },
-    ghost same: { AreColumns columns.x.now columns.y.now columns.z.now rows.now },
+    ghost some: { 0 < length table.now.rows },
+    ghost few: { length table.now.rows ≤ 200000 },
+    ghost within: { All (λ row. IsWithin 8000000 row.at) table.now.rows },
+    ghost same: { AreColumns columns.x.now columns.y.now columns.z.now table.now.rows },
 }
 
 // The coordinates of a point, in units.
@@ -29,9 +29,9 @@ pub struct Place {
 // The point at a place, from 0.
 #[inline(always)]
 pub fn place_at(points: &Points<'_>, at: usize) -> Place
-    requires { at < length points.now.rows.now }
-    ensures value { record { x = result.x; y = result.y; z = result.z } ≡ point_at points.now.rows.now at }
-    ensures size { IsWithin 8000000 (point_at points.now.rows.now at) }
+    requires { at < length points.now.table.now.rows }
+    ensures value { record { x = result.x; y = result.y; z = result.z } ≡ point_at points.now.table.now.rows at }
+    ensures size { IsWithin 8000000 (point_at points.now.table.now.rows at) }
 {
     Place {
         x: points.columns.x[at],

@@ -15,8 +15,8 @@ use gd_vec::{V3, norm2};
 #[inline(always)]
 fn value_at(n: &V3, points: &Points<'_>, at: usize) -> i64
     requires direction { IsWithin (2 ^ 30) n.now }
-    requires at { at < length points.now.rows.now }
-    ensures value { result ≡ get_or (along n.now points.now.rows.now) at (pos 0) }
+    requires at { at < length points.now.table.now.rows }
+    ensures value { result ≡ get_or (along n.now points.now.table.now.rows) at (pos 0) }
     ensures size { unsigned_abs result ≤ 3 * 2 ^ 54 }
 {
     let point = place_at(points, at);
@@ -32,13 +32,13 @@ fn span_to(n: &V3, points: &Points<'_>, before: Span, from: usize, to: usize) ->
     requires direction { IsWithin (2 ^ 30) n.now }
     requires from { 0 < from }
     requires order { from ≤ to }
-    requires to { to ≤ length points.now.rows.now }
-    requires lo { before.lo ≡ least (take from (along n.now points.now.rows.now)) }
-    requires hi { before.hi ≡ greatest (take from (along n.now points.now.rows.now)) }
+    requires to { to ≤ length points.now.table.now.rows }
+    requires lo { before.lo ≡ least (take from (along n.now points.now.table.now.rows)) }
+    requires hi { before.hi ≡ greatest (take from (along n.now points.now.table.now.rows)) }
     requires lo_size { unsigned_abs before.lo ≤ 3 * 2 ^ 54 }
     requires hi_size { unsigned_abs before.hi ≤ 3 * 2 ^ 54 }
-    ensures lo { result.lo ≡ least (take to (along n.now points.now.rows.now)) }
-    ensures hi { result.hi ≡ greatest (take to (along n.now points.now.rows.now)) }
+    ensures lo { result.lo ≡ least (take to (along n.now points.now.table.now.rows)) }
+    ensures hi { result.hi ≡ greatest (take to (along n.now points.now.table.now.rows)) }
     ensures lo_size { unsigned_abs result.lo ≤ 3 * 2 ^ 54 }
     ensures hi_size { unsigned_abs result.hi ≤ 3 * 2 ^ 54 }
 {
@@ -71,9 +71,9 @@ fn is_narrow(n: &V3, span: Span, tolerance: u32) -> bool
 pub fn lies_within(n: &V3, points: &Points<'_>, tolerance: u32) -> bool
     requires direction { IsWithin (2 ^ 30) n.now }
     requires tolerance { tolerance ≤ 16000000 }
-    ensures { result ≡ is_within points.now.rows.now tolerance n.now }
+    ensures { result ≡ is_within points.now.table.now.rows tolerance n.now }
 {
-    let count = points.rows.len();
+    let count = points.table.len();
     let first = value_at(n, points, 0);
     let mut span = Span {
         lo: first,
@@ -94,51 +94,50 @@ pub fn lies_within(n: &V3, points: &Points<'_>, tolerance: u32) -> bool
 #[cfg(test)]
 mod tests {
     use super::*;
-    use gd_points::{Columns, Row};
+    use crate::task::flat_task;
+    use gd_points::read_points;
+    use std::alloc::Global;
+    use std::thread::Threads;
 
-    // Whether two points, apart by these differences, lie within a tolerance along (1, 1, 0).
-    fn are_near(x: i32, y: i32, tolerance: u32) -> bool
-        requires x { unsigned_abs x ≤ 1000 }
-        requires y { unsigned_abs y ≤ 1000 }
-        requires tolerance { tolerance ≤ 16000000 }
+    // Whether the points of a file lie within a tolerance along (1, 1, 0).
+    fn are_near<R: Threads + Sync>(
+        rt: &R,
+        alloc: Global,
+        file: &[u8],
+        tolerance: u32,
+    ) -> Option<bool>
+        requires { tolerance ≤ 16000000 }
     {
+        let table = read_points(rt, alloc, file).ok()?;
+        if table.is_empty() {
+            return None;
+        }
         let one = 1 << 30;
         let n = V3 {
             x: one,
             y: one,
             z: 0,
         };
-        let points = Points {
-            rows: &[row(0, 0), row(i64::from(x), i64::from(y))],
-            columns: Columns {
-                x: &[0, x],
-                y: &[0, y],
-                z: &[0, 0],
-            },
-        };
-        lies_within(&n, &points, tolerance)
-    }
-
-    // A point of the one feature.
-    fn row(x: i64, y: i64) -> Row
-        requires x { unsigned_abs x ≤ 1000 }
-        requires y { unsigned_abs y ≤ 1000 }
-        ensures { result.at ≡ record { x = x; y = y; z = pos 0 } }
-    {
-        Row {
-            feature: 0,
-            group: 0,
-            at: V3 { x, y, z: 0 },
-        }
+        Some(lies_within(
+            &n,
+            &flat_task(&table, tolerance).points,
+            tolerance,
+        ))
     }
 
     // By hand: the distance along (1, 1, 0) is (x + y) over the root of 2.
     #[test]
     fn spreads(rt: HostRuntime) {
-        assert!(rt; are_near(7, 7, 10));
-        assert!(rt; !are_near(7, 8, 10));
-        assert!(rt; are_near(-7, -7, 10));
-        assert!(rt; !are_near(-8, -7, 10));
-        assert!(rt; are_near(1000, -1000, 0));
+        let to_ten: [(&[u8], bool); 4] = [
+            (b"feature,group,x,y,z\na,0,0,0,0\na,0,7,7,0\n", true),
+            (b"feature,group,x,y,z\na,0,0,0,0\na,0,7,8,0\n", false),
+            (b"feature,group,x,y,z\na,0,0,0,0\na,0,-7,-7,0\n", true),
+            (b"feature,group,x,y,z\na,0,0,0,0\na,0,-8,-7,0\n", false),
+        ];
+        for (file, near) in to_ten {
+            assert_eq!(rt; are_near(&rt, rt.alloc(), file, 10), Some(near), "{file:?}");
+        }
+        let across = b"feature,group,x,y,z\na,0,0,0,0\na,0,1000,-1000,0\n";
+        assert_eq!(rt; are_near(&rt, rt.alloc(), across, 0), Some(true));
     }
 }

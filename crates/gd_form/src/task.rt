@@ -30,12 +30,12 @@ pub struct FormTask<'a> {
 pub fn flat_task(table: &PointTable, tolerance: u32) -> FormTask<'_>
     requires some { 0 < length table.now.rows }
     requires tolerance { tolerance ≤ 16000000 }
-    ensures rows { result.points.rows.now ≡ table.now.rows }
+    ensures rows { result.points.table.now.rows ≡ table.now.rows }
     ensures tolerance { result.tolerance ≡ tolerance }
 {
     FormTask {
         points: Points {
-            rows: table.rows().as_slice(),
+            table,
             columns: table.columns(),
         },
         tolerance,
@@ -43,9 +43,9 @@ pub fn flat_task(table: &PointTable, tolerance: u32) -> FormTask<'_>
 }
 
 impl<'a> Task for FormTask<'a> {
-    ghost questions = { λ s. questions_of s.points.rows.now s.tolerance };
+    ghost questions = { λ s. questions_of s.points.table.now.rows s.tolerance };
 
-    ghost feasible = { λ s a. IsFeasible s.points.rows.now s.tolerance a };
+    ghost feasible = { λ s a. IsFeasible s.points.table.now.rows s.tolerance a };
 
     ghost inside = { λ s a c. IsInside a c };
 
@@ -68,7 +68,7 @@ impl<'a> Task for FormTask<'a> {
     }
 
     fn points(&self) -> usize {
-        self.points.rows.len()
+        self.points.table.len()
     }
 
     fn split(&self, cell: &Cell) -> (Cell, Cell) {
@@ -116,25 +116,25 @@ impl<'a> Task for FormTask<'a> {
         lies_within(&n, &self.points, self.tolerance)
     }
 
-    ghost is_grid = { λ t. flat_grid t.points.rows.now t.tolerance };
+    ghost is_grid = { λ t. flat_grid t.points.table.now.rows t.tolerance };
 
-    ghost roots_cover = { λ t. flat_roots_cover t.points.rows.now t.tolerance };
+    ghost roots_cover = { λ t. flat_roots_cover t.points.table.now.rows t.tolerance };
 
-    ghost halves_cover = { λ t. flat_halves_cover t.points.rows.now t.tolerance };
+    ghost halves_cover = { λ t. flat_halves_cover t.points.table.now.rows t.tolerance };
 
-    ghost first_refutes = { λ t. flat_first_refutes t.points.rows.now t.tolerance t.points.some };
+    ghost first_refutes = { λ t. flat_first_refutes t.points.table.now.rows t.tolerance t.points.some };
 
-    ghost none_refutes = { λ t. flat_none_refutes t.points.rows.now t.tolerance };
+    ghost none_refutes = { λ t. flat_none_refutes t.points.table.now.rows t.tolerance };
 
-    ghost first_is_short = { λ t. flat_first_is_short t.points.rows.now t.tolerance t.points.some t.points.few };
+    ghost first_is_short = { λ t. flat_first_is_short t.points.table.now.rows t.tolerance t.points.some t.points.few };
 
-    ghost refuted_is_empty = { λ t. flat_refuted_is_empty t.points.rows.now t.tolerance };
+    ghost refuted_is_empty = { λ t. flat_refuted_is_empty t.points.table.now.rows t.tolerance };
 
-    ghost centre_in_range = { λ t. flat_centre_in_range t.points.rows.now t.tolerance };
+    ghost centre_in_range = { λ t. flat_centre_in_range t.points.table.now.rows t.tolerance };
 
-    ghost holds_is_feasible = { λ t. flat_holds_is_feasible t.points.rows.now t.tolerance };
+    ghost holds_is_feasible = { λ t. flat_holds_is_feasible t.points.table.now.rows t.tolerance };
 
-    ghost centre_names_place = { λ t. flat_centre_names_place t.points.rows.now t.tolerance };
+    ghost centre_names_place = { λ t. flat_centre_names_place t.points.table.now.rows t.tolerance };
 }
 
 // Whether a ratio in 2^-30 lies between -1 and 1.

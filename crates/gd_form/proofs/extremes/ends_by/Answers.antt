@@ -9,7 +9,7 @@ use Rattle.gd_form.proofs.extremes.ends_by.Goals as goal
 pub loop-at-preserved : goal.loop-at-preserved
 loop-at-preserved c =
     let b = c.args.b.now in
-    let rows = c.args.points.now.rows.now in
+    let rows = c.args.points.now.table.now.rows in
     let i : ℕ = c.loop-at.at in
     let so = c.loop-at.invariant in
     let most : ℤ = to_z w64 c.loop-at.most-bits in

@@ -4,8 +4,8 @@ use Rattle.gd_form.proofs.extremes.ends_by.Given as goal
 
 abbrev pub invariant-loop-at : goal.invariant-loop-at
 invariant-loop-at l = record {
-  lo : l.most ≡ greatest (take l.at (lows l.b l.points.rows.now));
-  hi : l.least ≡ least (take l.at (highs l.b l.points.rows.now));
+  lo : l.most ≡ greatest (take l.at (lows l.b l.points.table.now.rows));
+  hi : l.least ≡ least (take l.at (highs l.b l.points.table.now.rows));
   lo_more : l.initial.most ≤ℤ l.most;
   hi_less : l.least ≤ℤ l.initial.least;
   lo_size : unsigned_abs l.most ≤ 3 * 2 ^ 54;

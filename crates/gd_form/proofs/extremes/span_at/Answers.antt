@@ -9,7 +9,7 @@ use Rattle.gd_form.proofs.extremes.span_at.Goals as goal
 pub returns-clause-lo : goal.returns-clause-lo
 returns-clause-lo c =
     let b = c.args.b.now in
-    let rows = c.args.points.now.rows.now in
+    let rows = c.args.points.now.table.now.rows in
     let x : c.along_axis-x.result.lo ≡ scale_lo c.args.b.now.lo.x c.args.b.now.hi.x (c.place_at-point.result.x -ℤ c.place_at-first.result.x) = search rules in
     let y : c.along_axis-y.result.lo ≡ scale_lo c.args.b.now.lo.y c.args.b.now.hi.y (c.place_at-point.result.y -ℤ c.place_at-first.result.y) = search rules in
     let z : c.along_axis-z.result.lo ≡ scale_lo c.args.b.now.lo.z c.args.b.now.hi.z (c.place_at-point.result.z -ℤ c.place_at-first.result.z) = search rules in
@@ -24,7 +24,7 @@ returns-clause-lo c =
 pub returns-clause-hi : goal.returns-clause-hi
 returns-clause-hi c =
     let b = c.args.b.now in
-    let rows = c.args.points.now.rows.now in
+    let rows = c.args.points.now.table.now.rows in
     let x : c.along_axis-x.result.hi ≡ scale_hi c.args.b.now.lo.x c.args.b.now.hi.x (c.place_at-point.result.x -ℤ c.place_at-first.result.x) = search rules in
     let y : c.along_axis-y.result.hi ≡ scale_hi c.args.b.now.lo.y c.args.b.now.hi.y (c.place_at-point.result.y -ℤ c.place_at-first.result.y) = search rules in
     let z : c.along_axis-z.result.hi ≡ scale_hi c.args.b.now.lo.z c.args.b.now.hi.z (c.place_at-point.result.z -ℤ c.place_at-first.result.z) = search rules in

@@ -7,7 +7,7 @@ use Rattle.gd_form.proofs.flat.first_evidence_in.Goals as goal
 
 pub returns-then-are_parted : goal.returns-then-are_parted
 returns-then-are_parted c =
-    let rows = c.args.points.now.rows.now in
+    let rows = c.args.points.now.table.now.rows in
     let b = c.args.b.now in
     let e = c.extremes_along-extremes.ensures in
     let far = c.extremes_along-extremes.result.farthest.value in
@@ -17,7 +17,7 @@ returns-then-are_parted c =
 
 pub returns-else-are_parted : goal.returns-else-are_parted
 returns-else-are_parted c =
-    let rows = c.args.points.now.rows.now in
+    let rows = c.args.points.now.table.now.rows in
     let b = c.args.b.now in
     let e = c.extremes_along-extremes.ensures in
     let d = decided rows c.args.tolerance b c.are_parted.result c.extremes_along-extremes.result.farthest.value c.extremes_along-extremes.result.nearest.value c.args.points.now.some e.lo_size e.hi_size e.greatest_lo e.least_hi c.are_parted.ensures in

@@ -5,12 +5,12 @@ use Rattle.gd_form.proofs.spread.lies_within.Given as goal
 abbrev pub invariant-loop-from : goal.invariant-loop-from
 invariant-loop-from l = record {
   some : 0 < l.from;
-  room : l.from ≤ length l.points.rows.now;
-  lo : l.span.lo ≡ least (take l.from (along l.n l.points.rows.now));
-  hi : l.span.hi ≡ greatest (take l.from (along l.n l.points.rows.now));
+  room : l.from ≤ length l.points.table.now.rows;
+  lo : l.span.lo ≡ least (take l.from (along l.n l.points.table.now.rows));
+  hi : l.span.hi ≡ greatest (take l.from (along l.n l.points.table.now.rows));
   lo_size : unsigned_abs l.span.lo ≤ 3 * 2 ^ 54;
   hi_size : unsigned_abs l.span.hi ≤ 3 * 2 ^ 54;
 }
 
 abbrev pub decreases-loop-from : goal.decreases-loop-from
-decreases-loop-from l = length l.points.rows.now - l.from
+decreases-loop-from l = length l.points.table.now.rows - l.from

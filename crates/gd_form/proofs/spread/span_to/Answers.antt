@@ -8,7 +8,7 @@ use Rattle.gd_form.proofs.spread.span_to.Goals as goal
 pub loop-at-preserved : goal.loop-at-preserved
 loop-at-preserved c =
     let n = c.args.n.now in
-    let rows = c.args.points.now.rows.now in
+    let rows = c.args.points.now.table.now.rows in
     let i : ℕ = c.loop-at.at in
     let so = c.loop-at.invariant in
     let most : ℤ = to_z w64 c.loop-at.most-bits in

@@ -14,4 +14,4 @@ returns-clause-value c =
     let ky = kept-is c.times-2.result (omega (arith, c.times-2.ensures.size)) in
     let kz = kept-is c.times-3.result (omega (arith, c.times-3.ensures.size)) in
     kept-is c.sum.result (omega (arith, c.sum.ensures.size)) ∙ c.sum.ensures.value ∙ rw (kx, ky, kz, x, y, z) refl
-    ∙ ap (dot_of n) c.place_at-point.ensures.value ∙ sym (along_there n c.args.points.now.rows.now c.args.at c.requires.at)
+    ∙ ap (dot_of n) c.place_at-point.ensures.value ∙ sym (along_there n c.args.points.now.table.now.rows c.args.at c.requires.at)
