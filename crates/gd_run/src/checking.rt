@@ -19,7 +19,7 @@ fn certificate_line(alloc: Global, task: &FormTask<'_>, cert: &Cert) -> Result<L
     requires bounds { IsInBounds (certificate_of cert.now) }
     requires lines { KeepsLines cert.now }
     requires short { length (text (certificate_of cert.now)) ≤ 134217728 }
-    ensures { IfOk result (λ line. said_in line ≡ said_of_certificate (questions_of task.now.points.rows.now task.now.tolerance) (heading_of cert.now.head) (certificate_of cert.now)) }
+    ensures { IfOk result (λ line. said_in line ≡ said_of_certificate (questions_of task.now.points.table.now.rows task.now.tolerance) (heading_of cert.now.head) (certificate_of cert.now)) }
 {
     match cert.head {
         Head::Plain => match check(alloc, &[*task], cert) {
@@ -34,7 +34,7 @@ fn certificate_line(alloc: Global, task: &FormTask<'_>, cert: &Cert) -> Result<L
 /// What is said of the bytes of a certificate.
 pub fn bytes_line(alloc: Global, task: &FormTask<'_>, bytes: &[u8]) -> Result<Line, AllocError>
     requires { length bytes.now ≤ 134217728 }
-    ensures { IfOk result (λ line. said_in line ≡ said_of_reading (questions_of task.now.points.rows.now task.now.tolerance) (reading bytes.now)) }
+    ensures { IfOk result (λ line. said_in line ≡ said_of_reading (questions_of task.now.points.table.now.rows task.now.tolerance) (reading bytes.now)) }
 {
     match read_cert(alloc, bytes) {
         Ok(cert) => certificate_line(alloc, task, &cert),
