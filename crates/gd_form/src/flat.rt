@@ -143,9 +143,9 @@ pub fn is_refuted_at(b: &DirBox, points: &Points<'_>, tolerance: u32, evidence: 
 #[cfg(test)]
 mod tests {
     use super::*;
+    use crate::task::flat_task;
     use gd_cells::root_cell;
     use gd_dir::{FormShape, dir_box};
-    use crate::task::flat_task;
     use gd_points::read_points;
     use std::alloc::Global;
     use std::thread::Threads;
@@ -172,8 +172,7 @@ mod tests {
     // No other point is below 0 throughout.
     #[test]
     fn faces(rt: HostRuntime) {
-        let corner =
-            b"feature,group,x,y,z\na,0,0,0,0\na,0,1000,0,0\na,0,0,1000,0\na,0,0,0,1000\n";
+        let corner = b"feature,group,x,y,z\na,0,0,0,0\na,0,1000,0,0\na,0,0,1000,0\na,0,0,0,1000\n";
         for (root, far) in [(1, 2), (2, 3), (3, 4)] {
             let want = Evidence {
                 condition: 1,

@@ -118,11 +118,7 @@ mod tests {
             y: one,
             z: 0,
         };
-        Some(lies_within(
-            &n,
-            &flat_task(&table, tolerance).points,
-            tolerance,
-        ))
+        Some(lies_within(&n, &flat_task(&table, tolerance).points, tolerance))
     }
 
     // By hand: the distance along (1, 1, 0) is (x + y) over the root of 2.

@@ -127,7 +127,6 @@ impl PointTable {
     }
 
     /// Adds a point of a feature that has points.
-    #[tactic(auto, using(crate::proofs::Again::with_point_again))]
     pub(crate) fn push_again(&mut self, feature: u32, group: u32, at: V3) -> Result<(), Memory>
         requires room { length self.old.rows < 200000 }
         requires feature { feature < length self.old.names }

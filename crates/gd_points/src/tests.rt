@@ -95,10 +95,7 @@ fn a_table(rt: HostRuntime) {
     assert_eq!(rt; table.len(), rows.len());
     for (i, (feature, group, (x, y, z))) in rows.into_iter().enumerate() {
         let at = V3 { x, y, z };
-        assert_eq!(rt;
-            table.row(i),
-            Some(Row { feature, group, at })
-        );
+        assert_eq!(rt; table.row(i), Some(Row { feature, group, at }));
     }
     assert_eq!(rt; table.features(), 2);
     assert_eq!(rt; table.name(1).bytes(), b"b_-9".as_slice());
@@ -152,10 +149,7 @@ fn lines_in_parts(rt: HostRuntime) {
         assert_eq!(rt; table.len(), rows.len());
         for (i, (feature, group, (x, y, z))) in rows.into_iter().enumerate() {
             let at = V3 { x, y, z };
-            assert_eq!(rt;
-                table.row(i),
-                Some(Row { feature, group, at })
-            );
+            assert_eq!(rt; table.row(i), Some(Row { feature, group, at }));
         }
         assert_eq!(rt; table.features(), 4);
     }

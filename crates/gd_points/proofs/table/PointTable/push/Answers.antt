@@ -28,7 +28,7 @@ invariant_of-self-2 c =
     let after : Table = record { rows = (before c).rows ++ row c ∷ []; names = c.insert_full.new.self.keys } in
     kept after _ _ _ _
     (table_more (before c) (row c) c.args.name _ c.in_ok-feature.ensures.keys c.self.invariant.table (search rules)
-      (rw (← c.name.view_is) c.name.invariant) (rw (← c.self.view_is) at c.requires.room) refl c.requires.group c.requires.within)
+    (rw (← c.name.view_is) c.name.invariant) (rw (← c.self.view_is) at c.requires.room) refl c.requires.group c.requires.within)
     (labels c) (columns c)
 
 pub returns-clause-ok : goal.returns-clause-ok
