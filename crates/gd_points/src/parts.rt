@@ -19,7 +19,7 @@ use std::alloc::Global;
 use std::thread::{Threads, available_parallelism, join};
 
 /// A part that gets a thread has so many bytes or more, 1.5 ms of work. A thread starts in some 0.02 ms where a processor
-/// is idle, and a second table is joined in some quarter of the time in which its lines are read.
+/// is idle, and a second table is joined in some eighth of the time in which its lines are read.
 const PART: usize = 262_144;
 
 /// There are at most so many parts.

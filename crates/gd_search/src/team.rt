@@ -22,8 +22,8 @@ const MOST_HELPERS: usize = 7;
 /// A level of more cells is not for a team: its threads pay for their start, and need no memory beside the rows.
 const MOST_CELLS: usize = 128;
 
-/// So many turns a thread waits for another, some tens of milliseconds. Then it goes on alone.
-const PATIENCE: u32 = 1_000_000;
+/// So many turns a thread waits for another, some 40 ms on the machine of bench/RESULTS.md. Then it goes on alone.
+const PATIENCE: u32 = 4_000_000;
 
 /// So many turns a thread looks again at once. Then it lets another thread run.
 const LOOKS: u32 = 64;
@@ -98,7 +98,7 @@ impl<J: Asked> Team<J> {
     }
 }
 
-// How many helpers a search has: one a processor beside its own, where a cell is worth it.
+/// How many helpers a search has: one a processor beside its own, where a cell is worth it.
 pub fn helpers_for<R: Threads>(rt: &R, points: usize) -> usize {
     if points < TEAM_POINTS {
         return 0;
