@@ -1,6 +1,6 @@
 -- A record that is read behind one table is read behind any with room: only the row of a fault differs.
 use Rattle.std.proofs.Common.{◌≡◌, ℕ, ◌+◌, ◌≤◌, ◌<◌, List, [], ◌∷◌, ◌++◌, length, map, Option, Some, None, Result, Ok, Err, Bool, true, false, cond, ap, sym, refl, ◌∙◌, arith}
-use Rattle.std.specs.Prelude.{IfSome, ℤ, ◌&&◌, int_le, nat_lt, pos, negsuc, if◌then◌else◌}
+use Rattle.std.specs.Prelude.{ℤ, ◌&&◌, int_le, nat_lt, pos, negsuc, if◌then◌else◌}
 use Rattle.std.specs.List.{All, list_any}
 use Rattle.std.proofs.lemmas.Bool.Decides.{nat_tests}
 use Rattle.std.proofs.lemmas.List.{append-nil, length-append, length-map}
@@ -145,14 +145,10 @@ unquoted start back front none =
     (first, list_any-append is_quote start (10 ∷ back) ∙ rw first none)
 
 -- two parts are a part
-parts_join : (lines front back : List ℕ) (t u v : Table) → IsCut lines front back → IsPart front t → IsPart back u → AreJoined t u v → IsPart lines v
+pub parts_join : (lines front back : List ℕ) (t u v : Table) → IsCut lines front back → IsPart front t → IsPart back u → AreJoined t u v → IsPart lines v
 parts_join lines front back t u v (start, front_is, lines_is) (front_none, first) (back_none, second) (room, made) =
     let (start_none, none) = unquoted start back (rw front_is at front_none) back_none in
     let cut = records_cut start back start_none in
     let one = then_records (records default_config (start ++ 10 ∷ [])) (records default_config back) empty_table t (rw front_is at first) in
     let two = joined_records (records default_config back) t empty_table u none_fits room second in
     (rw lines_is none, rw lines_is (ap (λ rs. with_records empty_table rs) cut ∙ one ∙ ap (λ w. with_records w (records default_config back)) (sym (joined_none t)) ∙ two ∙ ap Ok (sym made)))
-
-pub both_parts : (o : Option Table) (lines front back : List ℕ) (t u : Table) → IsCut lines front back → IsPart front t → IsPart back u → IfSome o (λ v. AreJoined t u v) → IfSome o (λ v. IsPart lines v)
-both_parts None lines front back t u cut first second made = made
-both_parts (Some v) lines front back t u cut first second made = parts_join lines front back t u v cut first second made

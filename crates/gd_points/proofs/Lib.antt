@@ -6,6 +6,7 @@ pub mod Fields
 pub mod Again
 pub mod Marks
 pub mod Quotes
+pub mod Ranges
 pub mod Used
 mod KnownValues
 pub mod Tables

@@ -1,7 +1,7 @@
 -- Two tables one behind the other, as of two parts of one file.
 use Rattle.std.specs.Prelude.{ℕ, ◌≡◌, ◌≤◌, ◌+◌, ◌++◌, Bool, false, ◌==◌, List, length, [], ◌∷◌, Ok, get_or, map, nat_eq}
 use Rattle.std.specs.Cmp.Lexicographic.{pointwise}
-use Rattle.std.specs.List.{list_any, position_or_len}
+use Rattle.std.specs.List.{list_any, position_or_len, slice_range}
 use Rattle.csv.specs.Reading.{default_config, records}
 use Rattle.indexmap.specs.IndexSet.{insert_all, insert_key}
 use Rattle.gd_points.specs.Points.{with_records}
@@ -43,3 +43,7 @@ is_quote byte = byte == 34
 -- the table of the records of some lines, in which no byte is a quote
 abbrev pub IsPart : List ℕ → Table → Type 0
 IsPart lines t = (list_any is_quote lines ≡ false) × (with_records empty_table (records default_config lines) ≡ Ok t)
+
+-- the table of the lines from one byte to another
+abbrev pub IsRange : List ℕ → ℕ → ℕ → Table → Type 0
+IsRange lines from to t = (from ≤ to) × (to ≤ length lines) × IsPart (slice_range lines from to) t

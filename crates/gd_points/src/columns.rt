@@ -44,6 +44,18 @@ impl ColumnLists {
         }
     }
 
+    // Makes room for so many points more.
+    pub fn make_room(&mut self, more: usize) -> Result<(), AllocError>
+        ensures x { self.new.x.items ≡ self.old.x.items }
+        ensures y { self.new.y.items ≡ self.old.y.items }
+        ensures z { self.new.z.items ≡ self.old.z.items }
+    {
+        self.x.reserve(more)?;
+        self.y.reserve(more)?;
+        self.z.reserve(more)?;
+        Ok(())
+    }
+
     // Makes room for one more point.
     pub fn reserve(&mut self) -> Result<(), AllocError>
         ensures x { self.new.x.items ≡ self.old.x.items }
@@ -89,14 +101,14 @@ impl ColumnLists {
     }
 
     // Adds the points of others behind these.
-    pub fn append(&mut self, more: &mut ColumnLists) -> Result<(), AllocError>
-        ensures x { OnOk result (self.new.x.items ≡ self.old.x.items ++ more.old.x.items) }
-        ensures y { OnOk result (self.new.y.items ≡ self.old.y.items ++ more.old.y.items) }
-        ensures z { OnOk result (self.new.z.items ≡ self.old.z.items ++ more.old.z.items) }
+    pub fn append(&mut self, more: &ColumnLists) -> Result<(), AllocError>
+        ensures x { OnOk result (self.new.x.items ≡ self.old.x.items ++ more.now.x.items) }
+        ensures y { OnOk result (self.new.y.items ≡ self.old.y.items ++ more.now.y.items) }
+        ensures z { OnOk result (self.new.z.items ≡ self.old.z.items ++ more.now.z.items) }
     {
-        self.x.append(&mut more.x)?;
-        self.y.append(&mut more.y)?;
-        self.z.append(&mut more.z)?;
+        self.x.extend_from_slice(more.x.as_slice())?;
+        self.y.extend_from_slice(more.y.as_slice())?;
+        self.z.extend_from_slice(more.z.as_slice())?;
         Ok(())
     }
 }

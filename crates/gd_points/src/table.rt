@@ -1,5 +1,5 @@
 // The table of points.
-ghost use Rattle.std.specs.Prelude.{◌≡◌, ◌<◌, ◌≤◌, ◌^◌, [], length, OnOk, OnErr, slice_get, get_or, Some, IfOk, IfSome, map, position, nat_eq, true, ◌+◌, ◌==◌};
+ghost use Rattle.std.specs.Prelude.{◌≡◌, ◌<◌, ◌≤◌, ◌^◌, ◌++◌, [], length, OnOk, OnErr, slice_get, get_or, Some, IfOk, IfSome, map, position, nat_eq, true, ◌+◌, ◌==◌};
 ghost use Rattle.indexmap.specs.IndexSet.{insert_all};
 ghost use Rattle.gd_points.specs.Joined.{numbers_of, renumbered_label};
 ghost use Rattle.gd_base.specs.Names.{is_name};
@@ -12,7 +12,7 @@ use crate::columns::{ColumnLists, Columns};
 use gd_base::{Memory, Name};
 use gd_vec::V3;
 use indexmap::IndexSet;
-use std::alloc::Global;
+use std::alloc::{AllocError, Global};
 use std::marker::Model;
 
 /// A point of a feature. `feature` is the number of the feature in its table, from 0, `group` its group number,
@@ -51,21 +51,31 @@ impl Model for PointTable {
     ghost invariant = { λ t. HasColumns (record { rows = rows_of t.labels.items t.columns.x.items t.columns.y.items t.columns.z.items; names = t.names.keys }) t.labels.items t.columns.x.items t.columns.y.items t.columns.z.items };
 }
 
+// A name once more.
+fn again(alloc: Global, name: &Name) -> Result<Name, Memory>
+    ensures { IfOk result (λ other. other ≡ name.now) }
+{
+    match Name::of(alloc, name.bytes())? {
+        Some(other) => Ok(other),
+        None => Err(Memory),
+    }
+}
+
 // Adds names behind others, and gives the numbers that they get.
 fn numbers_behind(
     alloc: Global,
     names: &mut IndexSet<Name>,
-    more: IndexSet<Name>,
+    more: &IndexSet<Name>,
 ) -> Result<Vec<u32>, Memory>
-    requires few { length names.old.keys + length more.keys ≤ 200000 }
+    requires few { length names.old.keys + length more.now.keys ≤ 200000 }
     requires distinct { IsDistinct (pointwise nat_eq) names.old.keys }
     ensures distinct { OnOk result (IsDistinct (pointwise nat_eq) names.new.keys) }
-    ensures names { OnOk result (names.new.keys ≡ insert_all (pointwise nat_eq) names.old.keys more.keys) }
-    ensures numbers { IfOk result (λ numbers. numbers.items ≡ numbers_of names.old.keys more.keys) }
+    ensures names { OnOk result (names.new.keys ≡ insert_all (pointwise nat_eq) names.old.keys more.now.keys) }
+    ensures numbers { IfOk result (λ numbers. numbers.items ≡ numbers_of names.old.keys more.now.keys) }
 {
     let mut numbers = Vec::new(alloc);
     for name in more {
-        let (number, _) = names.insert_full(name)?;
+        let (number, _) = names.insert_full(again(alloc, name)?)?;
         numbers.push(number as u32)?;
     }
     Ok(numbers)
@@ -87,6 +97,22 @@ fn renumber(labels: &mut [Label], numbers: &[u32])
     for label in labels.iter_mut() {
         renumber_label(label, numbers);
     }
+}
+
+// Adds labels behind others, and gives their features these numbers.
+fn append_renumbered(
+    labels: &mut Vec<Label>,
+    more: &[Label],
+    numbers: &[u32],
+) -> Result<(), AllocError>
+    requires { All (λ label. label.feature < length numbers.now) more.now }
+    ensures { OnOk result (labels.new.items ≡ labels.old.items ++ map (renumbered_label numbers.now) more.now) }
+{
+    let count = labels.len();
+    labels.extend_from_slice(more)?;
+    let (_, behind) = labels.as_mut_slice().split_at_mut(count);
+    renumber(behind, numbers);
+    Ok(())
 }
 
 impl PointTable {
@@ -142,25 +168,27 @@ impl PointTable {
         Ok(())
     }
 
+    /// Makes room for so many points more, which spares a table that grows its moves. Want of memory is told by those points.
+    pub(crate) fn make_room(&mut self, more: usize)
+        ensures { self.new ≡ self.old }
+    {
+        let _ = self.labels.reserve(more);
+        let _ = self.columns.make_room(more);
+    }
+
     /// One table of the points of this one and then those of another one, whose features keep their names.
-    pub(crate) fn joined_to(self, alloc: Global, behind: PointTable) -> Result<PointTable, Memory>
-        requires { length self.rows + length behind.rows ≤ 200000 }
-        ensures { IfOk result (λ t. t ≡ joined self behind) }
+    pub(crate) fn joined_to(self, alloc: Global, behind: &PointTable) -> Result<PointTable, Memory>
+        requires { length self.rows + length behind.now.rows ≤ 200000 }
+        ensures { IfOk result (λ t. t ≡ joined self behind.now) }
     {
         let PointTable {
             mut labels,
             mut columns,
             mut names,
         } = self;
-        let PointTable {
-            labels: mut more_labels,
-            columns: mut more_columns,
-            names: more_names,
-        } = behind;
-        let numbers = numbers_behind(alloc, &mut names, more_names)?;
-        renumber(more_labels.as_mut_slice(), numbers.as_slice());
-        labels.append(&mut more_labels)?;
-        columns.append(&mut more_columns)?;
+        let numbers = numbers_behind(alloc, &mut names, &behind.names)?;
+        append_renumbered(&mut labels, behind.labels.as_slice(), numbers.as_slice())?;
+        columns.append(&behind.columns)?;
         Ok(PointTable {
             labels,
             columns,

@@ -144,8 +144,8 @@ fn lines_in_parts(rt: HostRuntime) {
         (1, 5, (6, 7, 8)),
         (3, 6, (7, 8, 9)),
     ];
-    for halvings in 0..3 {
-        let table = read_split(&rt, rt.alloc(), lines, halvings).expect(&rt, "a table");
+    for count in 1..6 {
+        let table = read_split(&rt, rt.alloc(), lines, count, count % 3).expect(&rt, "a table");
         assert_eq!(rt; table.len(), rows.len());
         for (i, (feature, group, (x, y, z))) in rows.into_iter().enumerate() {
             let at = V3 { x, y, z };
@@ -159,8 +159,8 @@ fn lines_in_parts(rt: HostRuntime) {
         b"a,0,1,2,3\nb,1,2,3\n",
     ];
     for lines in unusual {
-        for halvings in 0..2 {
-            let table = read_split(&rt, rt.alloc(), lines, halvings);
+        for count in 1..3 {
+            let table = read_split(&rt, rt.alloc(), lines, count, count - 1);
             assert!(rt; table.is_none(), "{lines:?}");
         }
     }
