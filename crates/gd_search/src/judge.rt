@@ -13,7 +13,7 @@ ghost use Rattle.gd_cells.specs.declared.node.Node.{Node};
 use crate::outcome::Outcome;
 use crate::row::{Row, bound_level, count_undecided, first_holding, half_rows, root_rows};
 use crate::team::{Asked, Team, help, helpers_for};
-use crate::tree::{Level, keep_level, write_tree};
+use crate::tree::{Level, found_last, keep_level, write_tree};
 use gd_base::{Memory, Reason};
 use gd_cells::{
     Task, Witness, show_centre_in_range, show_centre_names_place, show_first_refutes, show_grid,
@@ -131,7 +131,8 @@ fn search_levels<J: Asked, R: Threads + Sync, T: Task>(
         spent: 0,
     };
     'levels: loop {
-        bound_level(rt, alloc, task, team, place.level, &mut rows);
+        let above = found_last(&levels);
+        bound_level(rt, alloc, task, team, place.level, above, &mut rows);
         keep_level(alloc, &mut levels, rows.as_slice())?;
         place.undecided = count_undecided(rows.as_slice()) as u32;
         let holding = first_witness(task, rows.as_slice());
@@ -204,12 +205,12 @@ fn search_in_team<J: Asked + Send + Sync, R: Threads + Sync, T: Task>(
     requires budget { budget ≤ 1000000 }
     ensures { IfOk result (λ o. IsVerdict (T.questions task.now) budget (end_of o)) }
 {
-    let boards = if helpers == 0 {
-        0
+    let (roots, boards) = if helpers == 0 {
+        (0, 0)
     } else {
-        task.floor_level() + 1
+        (task.roots(), task.floor_level() + 1)
     };
-    let team = Team::<J>::new(alloc, boards)?;
+    let team = Team::<J>::new(alloc, roots, boards)?;
     search_helped(rt, alloc, task, &team, budget, helpers)
 }
 

@@ -100,7 +100,7 @@ fn bound_parts<R: Threads + Sync, T: Task>(rt: &R, task: &T, rows: &mut [Row], p
     );
 }
 
-/// Bounds the cells of a level. Where there is enough to do, several threads share them: the helpers of the team where the level is
+/// Bounds the cells of a level, from what was found in the level above. Where there is enough to do, several threads share them: the helpers of the team where the level is
 /// narrow, and else threads that this level starts.
 pub fn bound_level<J: Asked, R: Threads + Sync, T: Task>(
     rt: &R,
@@ -108,6 +108,7 @@ pub fn bound_level<J: Asked, R: Threads + Sync, T: Task>(
     task: &T,
     team: &Team<J>,
     level: u32,
+    above: &[Option<Evidence>],
     rows: &mut Vec<Row>,
 )
     requires same { T.questions task.now ≡ J.questions }
@@ -116,7 +117,7 @@ pub fn bound_level<J: Asked, R: Threads + Sync, T: Task>(
 {
     let points = task.points();
     let rows = rows.as_mut_slice();
-    if !bound_together(alloc, task, team, level as usize, rows) {
+    if !bound_together(alloc, task, team, level as usize, above, rows) {
         let parts = parts_of(rows.len(), points);
         bound_parts(rt, task, rows, parts);
     }

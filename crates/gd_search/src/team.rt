@@ -1,16 +1,16 @@
 // Threads that stay with a search. They judge cells of its narrow levels, and no level pays for the start of a thread.
-ghost use Rattle.std.specs.Prelude.{◌≡◌, ◌≤◌, IfOk, IfSome, MatchBool, map};
+ghost use Rattle.std.specs.Prelude.{◌≡◌, ◌≤◌, ◌<◌, IfOk, IfSome, MatchBool, map};
 ghost use Rattle.std.specs.List.{All};
 ghost use Rattle.gd_cells.specs.Meaning.{IsCell, Questions};
 ghost use Rattle.gd_search.specs.Rows.{judged};
 
 use crate::row::{Row, bound_row, fresh_row};
-use gd_cells::{Cell, Task};
+use gd_cells::{Cell, Evidence, Task, show_grid};
 use std::alloc::{AllocError, Global};
 use std::hint::spin_loop;
 use std::marker::{Brand, Model, PhantomData};
 use std::sync::OnceLock;
-use std::sync::atomic::{AtomicBool, AtomicUsize, Ordering};
+use std::sync::atomic::{AtomicBool, Ordering};
 use std::thread::{Threads, available_parallelism, yield_now};
 
 /// A part of fewer points has no team: its cells are judged in a few microseconds.
@@ -47,12 +47,20 @@ struct Settled<J: Asked> {
     ghost right: { row ≡ judged J.questions row },
 }
 
-// The cells of a level, and what the threads of a team find in them.
+// A place for what is found in a cell, and whether a thread has taken the cell.
+#[derive(Drop)]
+struct Place<J: Asked> {
+    is_taken: AtomicBool,
+    settled: OnceLock<Settled<J>>,
+}
+
+// The cells of a level. The place of each is on the board above, by its number, and this board has two places for its
+// halves: they are cells of the next level where the cell is left undecided.
 #[derive(Drop)]
 struct Board<J: Asked> {
     cells: Vec<Cell>,
-    settled: Vec<OnceLock<Settled<J>>>,
-    next: AtomicUsize,
+    numbers: Vec<usize>,
+    halves: Vec<Place<J>>,
 }
 
 impl<J: Asked> Model for Board<J> {
@@ -68,21 +76,23 @@ impl<J: Asked> Model for Board<J> {
     ghost invariant = { λ b. All (IsCell J.questions) b.cells.items };
 }
 
-/// The threads of a search share it: a place for the board of each level, and whether the helpers may go.
+/// The threads of a search share it: places for the roots, one for the board of each level, and whether the helpers may go.
 #[derive(Drop)]
 pub struct Team<J: Asked> {
+    roots: Vec<Place<J>>,
     boards: Vec<OnceLock<Board<J>>>,
     is_over: AtomicBool,
 }
 
 impl<J: Asked> Team<J> {
-    /// A team for a search of so many levels.
-    pub fn new(alloc: Global, levels: u32) -> Result<Team<J>, AllocError> {
+    /// A team for a search of so many roots and levels.
+    pub fn new(alloc: Global, roots: u32, levels: u32) -> Result<Team<J>, AllocError> {
         let mut boards = Vec::with_capacity(alloc, levels as usize)?;
         for _level in 0..levels {
             boards.push(OnceLock::new())?;
         }
         Ok(Team {
+            roots: places(alloc, roots as usize)?,
             boards,
             is_over: AtomicBool::new(false),
         })
@@ -95,6 +105,24 @@ impl<J: Asked> Team<J> {
 
     fn is_over(&self) -> bool {
         self.is_over.load(Ordering::SeqCst)
+    }
+
+    // The board of a level, where it is there.
+    fn board(&self, level: usize) -> Option<&Board<J>> {
+        self.boards.get(level)?.get()
+    }
+
+    // The board above a level.
+    fn board_above(&self, level: usize) -> Option<&Board<J>> {
+        self.board(level.checked_sub(1)?)
+    }
+
+    // The places of the cells of a level.
+    fn places(&self, level: usize) -> &[Place<J>] {
+        match self.board_above(level) {
+            Some(board) => board.halves.as_slice(),
+            None => self.roots.as_slice(),
+        }
     }
 }
 
@@ -125,24 +153,60 @@ fn cells_of(alloc: Global, rows: &[Row]) -> Result<Vec<Cell>, AllocError>
     rows.iter().map(|row| row.cell).collect(alloc)
 }
 
-// So many places for what is found.
-fn places<J: Asked>(alloc: Global, count: usize) -> Result<Vec<OnceLock<Settled<J>>>, AllocError> {
+// So many places.
+fn places<J: Asked>(alloc: Global, count: usize) -> Result<Vec<Place<J>>, AllocError> {
     let mut places = Vec::with_capacity(alloc, count)?;
     for _place in 0..count {
-        places.push(OnceLock::new())?;
+        places.push(Place {
+            is_taken: AtomicBool::new(false),
+            settled: OnceLock::new(),
+        })?;
     }
     Ok(places)
 }
 
+// The numbers of the places of the halves of a cell, from its place in its level.
+fn numbers_of_halves(at: usize) -> (usize, usize) {
+    let lower = at.saturating_mul(2);
+    (lower, lower.saturating_add(1))
+}
+
+// The numbers of the places of so many cells, from what was found in the level above. The roots have none above them.
+fn numbers_of(
+    alloc: Global,
+    above: &[Option<Evidence>],
+    count: usize,
+) -> Result<Vec<usize>, AllocError> {
+    let mut numbers = Vec::with_capacity(alloc, count)?;
+    if above.is_empty() {
+        for number in 0..count {
+            numbers.push(number)?;
+        }
+        return Ok(numbers);
+    }
+    for (at, found) in above.iter().enumerate() {
+        if found.is_none() {
+            let (lower, upper) = numbers_of_halves(at);
+            numbers.push(lower)?;
+            numbers.push(upper)?;
+        }
+    }
+    Ok(numbers)
+}
+
 // The board of the rows of a level.
 #[tactic(auto, using(crate::proofs::Boards::cells_asked))]
-fn board_of<J: Asked>(alloc: Global, rows: &[Row]) -> Result<Board<J>, AllocError>
+fn board_of<J: Asked>(
+    alloc: Global,
+    above: &[Option<Evidence>],
+    rows: &[Row],
+) -> Result<Board<J>, AllocError>
     requires { All (λ row. IsCell J.questions row.cell) rows.now }
 {
     Ok(Board {
         cells: cells_of(alloc, rows)?,
-        settled: places(alloc, rows.len())?,
-        next: AtomicUsize::new(0),
+        numbers: numbers_of(alloc, above, rows.len())?,
+        halves: places(alloc, rows.len().saturating_mul(2))?,
     })
 }
 
@@ -151,6 +215,7 @@ fn publish<'a, J: Asked>(
     alloc: Global,
     team: &'a Team<J>,
     level: usize,
+    above: &[Option<Evidence>],
     rows: &[Row],
 ) -> Option<&'a Board<J>>
     requires { All (λ row. IsCell J.questions row.cell) rows.now }
@@ -159,18 +224,22 @@ fn publish<'a, J: Asked>(
         return None;
     }
     let place = team.boards.get(level)?;
-    let Ok(board) = board_of(alloc, rows) else {
+    let Ok(board) = board_of(alloc, above, rows) else {
         return None;
     };
     let _ = place.try_set(board);
     place.get()
 }
 
-// The board of a level, once it is there. `None` where the team is over, or patience.
-fn await_board<'a, J: Asked>(
-    team: &Team<J>,
+// The board of a level, once it is there. Until then this thread works ahead. `None` where the team is over, or patience.
+fn await_board<'a, J: Asked, T: Task>(
+    task: &T,
+    team: &'a Team<J>,
+    level: usize,
     place: &'a OnceLock<Board<J>>,
-) -> Option<&'a Board<J>> {
+) -> Option<&'a Board<J>>
+    requires { T.questions task.now ≡ J.questions }
+{
     for turn in 0..PATIENCE {
         if let Some(board) = place.get() {
             return Some(board);
@@ -178,100 +247,227 @@ fn await_board<'a, J: Asked>(
         if team.is_over() {
             return None;
         }
-        wait_turn(turn);
+        work_or_wait(task, team, level, turn);
     }
     None
 }
 
-// Judges a cell for all threads.
-fn settle<J: Asked, T: Task>(task: &T, cell: &Cell, place: &OnceLock<Settled<J>>)
+// Judges a cell for all threads, if this one is the first to take it.
+fn settle<J: Asked, T: Task>(task: &T, cell: &Cell, place: &Place<J>) -> bool
     requires same { T.questions task.now ≡ J.questions }
     requires cell { IsCell J.questions cell.now }
 {
+    if place.is_taken.swap(true, Ordering::SeqCst) {
+        return false;
+    }
     let mut row = fresh_row(*cell);
     bound_row(task, &mut row);
-    let _ = place.try_set(Settled {
+    let _ = place.settled.try_set(Settled {
         row,
         of: PhantomData,
     });
+    true
 }
 
-// The next cell of a board that no thread has taken, with the place for what is found in it.
+// A cell of a board by its place in its level.
 #[tactic(auto, using(crate::proofs::Boards::cell_asked))]
-fn next_cell<J: Asked>(board: &Board<J>) -> Option<(&Cell, &OnceLock<Settled<J>>)>
-    ensures { IfSome result (λ taken. IsCell J.questions taken.0.now) }
+fn cell_at<J: Asked>(board: &Board<J>, at: usize) -> Option<&Cell>
+    ensures { IfSome result (λ cell. IsCell J.questions cell.now) }
 {
-    let at = board.next.fetch_add(1, Ordering::SeqCst);
-    let cell = board.cells.get(at)?;
-    let place = board.settled.get(at)?;
-    Some((cell, place))
+    board.cells.get(at)
+}
+
+// The place of a cell.
+fn place_at<'a, J: Asked>(
+    board: &Board<J>,
+    places: &'a [Place<J>],
+    at: usize,
+) -> Option<&'a Place<J>> {
+    places.get(*board.numbers.get(at)?)
 }
 
 // Judges the cells of a board that no other thread has taken.
-fn settle_cells<J: Asked, T: Task>(task: &T, board: &Board<J>)
+fn settle_cells<J: Asked, T: Task>(task: &T, board: &Board<J>, places: &[Place<J>])
     requires { T.questions task.now ≡ J.questions }
 {
-    for _turn in 0..MOST_CELLS {
-        let Some((cell, place)) = next_cell(board) else {
-            return;
-        };
-        settle(task, cell, place);
+    for at in 0..board.cells.len() {
+        if let Some(cell) = cell_at(board, at) {
+            if let Some(place) = place_at(board, places, at) {
+                settle(task, cell, place);
+            }
+        }
     }
 }
 
-// What was found in a cell that another thread may have taken. `None` where patience is over.
-fn await_settled<J: Asked>(place: &OnceLock<Settled<J>>) -> Option<&Settled<J>> {
+// A cell of a board, if it was judged and left undecided.
+fn undecided_at<'a, J: Asked>(
+    board: &'a Board<J>,
+    places: &[Place<J>],
+    at: usize,
+) -> Option<&'a Cell>
+    ensures { IfSome result (λ cell. IsCell J.questions cell.now) }
+{
+    let settled = place_at(board, places, at)?.settled.get()?;
+    if settled.row.found.is_some() || settled.row.holds {
+        return None;
+    }
+    cell_at(board, at)
+}
+
+// Judges a half of an undecided cell that no other thread has taken. False where there is none.
+fn settle_half<J: Asked, T: Task>(task: &T, board: &Board<J>, cell: &Cell, at: usize) -> bool
+    requires same { T.questions task.now ≡ J.questions }
+    requires cell { IsCell J.questions cell.now }
+{
+    if task.floor_level() <= cell.level {
+        return false;
+    }
+    let (lower, upper) = split_asked::<J, T>(task, cell);
+    let (first, second) = numbers_of_halves(at);
+    settle_numbered(task, board, &lower, first) || settle_numbered(task, board, &upper, second)
+}
+
+// The halves of a cell above the last level.
+#[tactic(auto, using(crate::proofs::Boards::halves_asked))]
+fn split_asked<J: Asked, T: Task>(task: &T, cell: &Cell) -> (Cell, Cell)
+    requires same { T.questions task.now ≡ J.questions }
+    requires cell { IsCell J.questions cell.now }
+    requires above { cell.now.level < J.questions.finest }
+    ensures lower { IsCell J.questions result.0 }
+    ensures upper { IsCell J.questions result.1 }
+{
+    show_grid(task);
+    task.split(cell)
+}
+
+fn settle_numbered<J: Asked, T: Task>(
+    task: &T,
+    board: &Board<J>,
+    cell: &Cell,
+    number: usize,
+) -> bool
+    requires same { T.questions task.now ≡ J.questions }
+    requires cell { IsCell J.questions cell.now }
+{
+    match board.halves.get(number) {
+        Some(place) => settle(task, cell, place),
+        None => false,
+    }
+}
+
+// Judges a cell of the next level, where it is known: a half of a cell that was left undecided on this board.
+fn settle_ahead<J: Asked, T: Task>(task: &T, board: &Board<J>, places: &[Place<J>]) -> bool
+    requires { T.questions task.now ≡ J.questions }
+{
+    for at in 0..board.cells.len() {
+        if let Some(cell) = undecided_at(board, places, at) {
+            if settle_half(task, board, cell, at) {
+                return true;
+            }
+        }
+    }
+    false
+}
+
+// Judges a cell of this level before its board is there, or waits for one turn.
+fn work_or_wait<J: Asked, T: Task>(task: &T, team: &Team<J>, level: usize, turn: u32)
+    requires { T.questions task.now ≡ J.questions }
+{
+    if turn % LOOKS == 0 && works_ahead(task, team, level) {
+        return;
+    }
+    wait_turn(turn);
+}
+
+fn works_ahead<J: Asked, T: Task>(task: &T, team: &Team<J>, level: usize) -> bool
+    requires { T.questions task.now ≡ J.questions }
+{
+    match (level.checked_sub(1), team.board_above(level)) {
+        (Some(above), Some(board)) => settle_ahead(task, board, team.places(above)),
+        _ => false,
+    }
+}
+
+// What was found in a cell that another thread may have taken. Until it is there, this thread works ahead. `None` where
+// patience is over.
+fn await_settled<'a, J: Asked, T: Task>(
+    task: &T,
+    team: &Team<J>,
+    level: usize,
+    place: &'a Place<J>,
+) -> Option<&'a Settled<J>>
+    requires { T.questions task.now ≡ J.questions }
+{
     for turn in 0..PATIENCE {
-        if let Some(settled) = place.get() {
+        if let Some(settled) = place.settled.get() {
             return Some(settled);
         }
-        wait_turn(turn);
+        work_or_wait(task, team, level.saturating_add(1), turn);
     }
     None
 }
 
 // Takes what was found in the cell of a row, or else bounds it.
-fn take_settled<J: Asked, T: Task>(task: &T, place: Option<&OnceLock<Settled<J>>>, row: &mut Row)
+fn take_settled<J: Asked, T: Task>(
+    task: &T,
+    team: &Team<J>,
+    level: usize,
+    place: Option<&Place<J>>,
+    row: &mut Row,
+)
     requires same { T.questions task.now ≡ J.questions }
     requires cell { IsCell J.questions row.old.cell }
     ensures { row.new ≡ judged J.questions row.old }
 {
-    match place.and_then(await_settled) {
+    let settled = match place {
+        Some(place) => await_settled(task, team, level, place),
+        None => None,
+    };
+    match settled {
         Some(settled) if settled.row.cell == row.cell => *row = settled.row,
         _ => bound_row(task, row),
     }
 }
 
-/// Bounds the cells of the rows of a level together with the helpers. False, and nothing done, where there is no team for it.
+/// Bounds the cells of the rows of a level together with the helpers, from what was found in the level above. False, and nothing
+/// done, where there is no team for it.
 pub fn bound_together<J: Asked, T: Task>(
     alloc: Global,
     task: &T,
     team: &Team<J>,
     level: usize,
+    above: &[Option<Evidence>],
     rows: &mut [Row],
 ) -> bool
     requires same { T.questions task.now ≡ J.questions }
     requires cells { All (λ row. IsCell J.questions row.cell) rows.old }
     ensures { MatchBool result (rows.new ≡ map (judged J.questions) rows.old) (rows.new ≡ rows.old) }
 {
-    let Some(board) = publish(alloc, team, level, rows) else {
+    let Some(board) = publish(alloc, team, level, above, rows) else {
         team.end();
         return false;
     };
-    settle_cells(task, board);
-    take_all(task, board, rows);
+    settle_cells(task, board, team.places(level));
+    take_all(task, team, level, board, rows);
     true
 }
 
 // Takes what was found in the cells of the rows.
 #[tactic(auto, using(crate::proofs::Levels::cell_of_row))]
-fn take_all<J: Asked, T: Task>(task: &T, board: &Board<J>, rows: &mut [Row])
+fn take_all<J: Asked, T: Task>(
+    task: &T,
+    team: &Team<J>,
+    level: usize,
+    board: &Board<J>,
+    rows: &mut [Row],
+)
     requires same { T.questions task.now ≡ J.questions }
     requires cells { All (λ row. IsCell J.questions row.cell) rows.old }
     ensures { rows.new ≡ map (judged J.questions) rows.old }
 {
+    let places = team.places(level);
     for (at, row) in rows.iter_mut().enumerate() {
-        take_settled(task, board.settled.get(at), row);
+        take_settled(task, team, level, place_at(board, places, at), row);
     }
 }
 
@@ -279,11 +475,11 @@ fn take_all<J: Asked, T: Task>(task: &T, board: &Board<J>, rows: &mut [Row])
 pub fn help<J: Asked, T: Task>(task: &T, team: &Team<J>)
     requires { T.questions task.now ≡ J.questions }
 {
-    for place in &team.boards {
-        let Some(board) = await_board(team, place) else {
+    for (level, place) in team.boards.iter().enumerate() {
+        let Some(board) = await_board(task, team, level, place) else {
             break;
         };
-        settle_cells(task, board);
+        settle_cells(task, board, team.places(level));
     }
     team.end();
 }

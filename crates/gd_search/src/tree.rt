@@ -59,6 +59,14 @@ fn found_in(alloc: Global, rows: &[Row]) -> Result<Vec<Option<Evidence>>, AllocE
     rows.iter().map(|row| row.found).collect(alloc)
 }
 
+/// What was found in the cells of the last level that is kept. Nothing where none is.
+pub fn found_last(levels: &[Level]) -> &[Option<Evidence>] {
+    match levels.last() {
+        Some(level) => level.found.as_slice(),
+        None => &[],
+    }
+}
+
 /// Keeps what was found in the cells of the next level.
 pub fn keep_level(alloc: Global, levels: &mut Vec<Level>, rows: &[Row]) -> Result<(), Memory>
     ensures kept { OnOk result (left_of levels.new.items ≡ left_of levels.old.items ++ map (λ row. row.found) rows.now ∷ []) }
