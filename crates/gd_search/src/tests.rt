@@ -9,6 +9,7 @@ use gd_cells::{Cell, Evidence, Node, Task, Witness, split_cell};
 use std::alloc::{AllocError, Global};
 use std::sync::atomic::{AtomicBool, Ordering};
 use std::test::Fail;
+use std::thread::available_parallelism;
 
 fn evidence(cell: &Cell) -> Evidence
     ensures { result ≡ evidence_of cell.now }
@@ -215,6 +216,105 @@ impl Task for Meeting {
     ghost centre_names_place = { λ t. toys.meeting-places };
 }
 
+// A toy whose second root looks, while it is bounded, whether a half of a root is.
+#[derive(Drop)]
+struct Waiting {
+    toy: Toy,
+    half_came: AtomicBool,
+    root_saw_it: AtomicBool,
+}
+
+impl Waiting {
+    fn look(&self, cell: &Cell) {
+        if 0 < cell.level {
+            self.half_came.store(true, Ordering::SeqCst);
+        } else if cell.root == 2 {
+            for _ in 0..100_000_000 {
+                if self.half_came.load(Ordering::SeqCst) {
+                    self.root_saw_it.store(true, Ordering::SeqCst);
+                    break;
+                }
+            }
+        }
+    }
+}
+
+impl Task for Waiting {
+    ghost questions = { λ t. toy t.toy.shows t.toy.depth t.toy.least };
+
+    ghost feasible = { λ t. feasible_of t.toy.shows };
+
+    ghost inside = { λ t. inside_all };
+
+    ghost assignment = { λ t w. w.at };
+
+    fn roots(&self) -> u32 {
+        self.toy.roots()
+    }
+
+    fn dims(&self) -> u32 {
+        self.toy.dims()
+    }
+
+    fn numbers(&self) -> u32 {
+        self.toy.numbers()
+    }
+
+    fn floor_level(&self) -> u32 {
+        self.toy.floor_level()
+    }
+
+    // so many that a search has helpers
+    fn points(&self) -> usize {
+        1_000_000_000
+    }
+
+    fn split(&self, cell: &Cell) -> (Cell, Cell) {
+        self.toy.split(cell)
+    }
+
+    fn refutes(&self, cell: &Cell) -> Option<Evidence> {
+        self.look(cell);
+        self.toy.refutes(cell)
+    }
+
+    fn refutes_at(&self, cell: &Cell, evidence: &Evidence) -> bool {
+        self.toy.refutes_at(cell, evidence)
+    }
+
+    fn centre(&self, cell: &Cell) -> Witness {
+        self.toy.centre(cell)
+    }
+
+    fn in_range(&self, witness: &Witness) -> bool {
+        self.toy.in_range(witness)
+    }
+
+    fn holds(&self, witness: &Witness) -> bool {
+        self.toy.holds(witness)
+    }
+
+    ghost is_grid = { λ t. toys.toy-grid t.toy.shows t.toy.depth t.toy.least };
+
+    ghost roots_cover = { λ t. toys.toy-roots t.toy.shows t.toy.depth t.toy.least };
+
+    ghost halves_cover = { λ t. toys.toy-halves t.toy.shows t.toy.depth t.toy.least };
+
+    ghost first_refutes = { λ t. toys.toy-first t.toy.shows t.toy.depth t.toy.least };
+
+    ghost none_refutes = { λ t. toys.toy-none t.toy.shows t.toy.depth t.toy.least };
+
+    ghost first_is_short = { λ t. toys.toy-short t.toy.shows t.toy.depth t.toy.least };
+
+    ghost refuted_is_empty = { λ t. toys.toy-empty t.toy.shows t.toy.depth t.toy.least };
+
+    ghost centre_in_range = { λ t c cell. refl };
+
+    ghost holds_is_feasible = { λ t. toys.toy-shown t.toy.shows t.toy.depth t.toy.least };
+
+    ghost centre_names_place = { λ t. toys.toy-places t.toy.shows t.toy.depth t.toy.least };
+}
+
 // A letter a line: `s`, `r` or `o`.
 fn spelled(alloc: Global, tree: &[Node]) -> Result<String, AllocError> {
     let mut text = String::new(alloc);
@@ -300,6 +400,30 @@ fn halves_meet(rt: HostRuntime) -> Result<(), Fail> {
     assert!(rt;
         task.met[1].load(Ordering::SeqCst),
         "the second root saw the first"
+    );
+    Ok(())
+}
+
+#[test]
+fn halves_come_early(rt: HostRuntime) -> Result<(), Fail> {
+    let toy = Toy {
+        shows: false,
+        depth: 1,
+        least: 0,
+    };
+    let task = Waiting {
+        toy,
+        half_came: AtomicBool::new(false),
+        root_saw_it: AtomicBool::new(false),
+    };
+    let outcome = search(&rt, rt.alloc(), &task, 100)?;
+    let told = told(rt.alloc(), &outcome)?;
+    assert_eq!(rt; told.as_str(), "reject 4 srrsrr");
+    // one processor has no helpers
+    let processors = available_parallelism(&rt)?;
+    assert!(rt;
+        processors.get() == 1 || task.root_saw_it.load(Ordering::SeqCst),
+        "the second root saw a half of the first"
     );
     Ok(())
 }
