@@ -47,20 +47,20 @@ struct Settled<J: Asked> {
     ghost right: { row ≡ judged J.questions row },
 }
 
-// A place for what is found in a cell, and whether a thread has taken the cell.
+// A slot for what is found in a cell, and whether a thread has taken the cell.
 #[derive(Drop)]
-struct Place<J: Asked> {
+struct Slot<J: Asked> {
     is_taken: AtomicBool,
     settled: OnceLock<Settled<J>>,
 }
 
-// The cells of a level. The place of each is on the board above, by its number, and this board has two places for its
+// The cells of a level. The slot of each is on the board above, by its number, and this board has two slots for its
 // halves: they are cells of the next level where the cell is left undecided.
 #[derive(Drop)]
 struct Board<J: Asked> {
     cells: Vec<Cell>,
     numbers: Vec<usize>,
-    halves: Vec<Place<J>>,
+    halves: Vec<Slot<J>>,
 }
 
 impl<J: Asked> Model for Board<J> {
@@ -76,10 +76,10 @@ impl<J: Asked> Model for Board<J> {
     ghost invariant = { λ b. All (IsCell J.questions) b.cells.items };
 }
 
-/// The threads of a search share it: places for the roots, one for the board of each level, and whether the helpers may go.
+/// The threads of a search share it: slots for the roots, a place for the board of each level, and whether the helpers may go.
 #[derive(Drop)]
 pub struct Team<J: Asked> {
-    roots: Vec<Place<J>>,
+    roots: Vec<Slot<J>>,
     boards: Vec<OnceLock<Board<J>>>,
     is_over: AtomicBool,
 }
@@ -92,7 +92,7 @@ impl<J: Asked> Team<J> {
             boards.push(OnceLock::new())?;
         }
         Ok(Team {
-            roots: places(alloc, roots as usize)?,
+            roots: slots(alloc, roots as usize)?,
             boards,
             is_over: AtomicBool::new(false),
         })
@@ -117,8 +117,8 @@ impl<J: Asked> Team<J> {
         self.board(level.checked_sub(1)?)
     }
 
-    // The places of the cells of a level.
-    fn places(&self, level: usize) -> &[Place<J>] {
+    // The slots of the cells of a level.
+    fn slots(&self, level: usize) -> &[Slot<J>] {
         match self.board_above(level) {
             Some(board) => board.halves.as_slice(),
             None => self.roots.as_slice(),
@@ -153,25 +153,25 @@ fn cells_of(alloc: Global, rows: &[Row]) -> Result<Vec<Cell>, AllocError>
     rows.iter().map(|row| row.cell).collect(alloc)
 }
 
-// So many places.
-fn places<J: Asked>(alloc: Global, count: usize) -> Result<Vec<Place<J>>, AllocError> {
-    let mut places = Vec::with_capacity(alloc, count)?;
-    for _place in 0..count {
-        places.push(Place {
+// So many slots.
+fn slots<J: Asked>(alloc: Global, count: usize) -> Result<Vec<Slot<J>>, AllocError> {
+    let mut slots = Vec::with_capacity(alloc, count)?;
+    for _slot in 0..count {
+        slots.push(Slot {
             is_taken: AtomicBool::new(false),
             settled: OnceLock::new(),
         })?;
     }
-    Ok(places)
+    Ok(slots)
 }
 
-// The numbers of the places of the halves of a cell, from its place in its level.
+// The numbers of the slots of the halves of a cell, from its place in its level.
 fn numbers_of_halves(at: usize) -> (usize, usize) {
     let lower = at.saturating_mul(2);
     (lower, lower.saturating_add(1))
 }
 
-// The numbers of the places of so many cells, from what was found in the level above. The roots have none above them.
+// The numbers of the slots of so many cells, from what was found in the level above. The roots have none above them.
 fn numbers_of(
     alloc: Global,
     above: &[Option<Evidence>],
@@ -206,7 +206,7 @@ fn board_of<J: Asked>(
     Ok(Board {
         cells: cells_of(alloc, rows)?,
         numbers: numbers_of(alloc, above, rows.len())?,
-        halves: places(alloc, rows.len().saturating_mul(2))?,
+        halves: slots(alloc, rows.len().saturating_mul(2))?,
     })
 }
 
@@ -253,16 +253,16 @@ fn await_board<'a, J: Asked, T: Task>(
 }
 
 // Judges a cell for all threads, if this one is the first to take it.
-fn settle<J: Asked, T: Task>(task: &T, cell: &Cell, place: &Place<J>) -> bool
+fn settle<J: Asked, T: Task>(task: &T, cell: &Cell, slot: &Slot<J>) -> bool
     requires same { T.questions task.now ≡ J.questions }
     requires cell { IsCell J.questions cell.now }
 {
-    if place.is_taken.swap(true, Ordering::SeqCst) {
+    if slot.is_taken.swap(true, Ordering::SeqCst) {
         return false;
     }
     let mut row = fresh_row(*cell);
     bound_row(task, &mut row);
-    let _ = place.settled.try_set(Settled {
+    let _ = slot.settled.try_set(Settled {
         row,
         of: PhantomData,
     });
@@ -277,37 +277,29 @@ fn cell_at<J: Asked>(board: &Board<J>, at: usize) -> Option<&Cell>
     board.cells.get(at)
 }
 
-// The place of a cell.
-fn place_at<'a, J: Asked>(
-    board: &Board<J>,
-    places: &'a [Place<J>],
-    at: usize,
-) -> Option<&'a Place<J>> {
-    places.get(*board.numbers.get(at)?)
+// The slot of a cell.
+fn slot_at<'a, J: Asked>(board: &Board<J>, slots: &'a [Slot<J>], at: usize) -> Option<&'a Slot<J>> {
+    slots.get(*board.numbers.get(at)?)
 }
 
 // Judges the cells of a board that no other thread has taken.
-fn settle_cells<J: Asked, T: Task>(task: &T, board: &Board<J>, places: &[Place<J>])
+fn settle_cells<J: Asked, T: Task>(task: &T, board: &Board<J>, slots: &[Slot<J>])
     requires { T.questions task.now ≡ J.questions }
 {
     for at in 0..board.cells.len() {
         if let Some(cell) = cell_at(board, at) {
-            if let Some(place) = place_at(board, places, at) {
-                settle(task, cell, place);
+            if let Some(slot) = slot_at(board, slots, at) {
+                settle(task, cell, slot);
             }
         }
     }
 }
 
 // A cell of a board, if it was judged and left undecided.
-fn undecided_at<'a, J: Asked>(
-    board: &'a Board<J>,
-    places: &[Place<J>],
-    at: usize,
-) -> Option<&'a Cell>
+fn undecided_at<'a, J: Asked>(board: &'a Board<J>, slots: &[Slot<J>], at: usize) -> Option<&'a Cell>
     ensures { IfSome result (λ cell. IsCell J.questions cell.now) }
 {
-    let settled = place_at(board, places, at)?.settled.get()?;
+    let settled = slot_at(board, slots, at)?.settled.get()?;
     if settled.row.found.is_some() || settled.row.holds {
         return None;
     }
@@ -350,17 +342,17 @@ fn settle_numbered<J: Asked, T: Task>(
     requires cell { IsCell J.questions cell.now }
 {
     match board.halves.get(number) {
-        Some(place) => settle(task, cell, place),
+        Some(slot) => settle(task, cell, slot),
         None => false,
     }
 }
 
 // Judges a cell of the next level, where it is known: a half of a cell that was left undecided on this board.
-fn settle_ahead<J: Asked, T: Task>(task: &T, board: &Board<J>, places: &[Place<J>]) -> bool
+fn settle_ahead<J: Asked, T: Task>(task: &T, board: &Board<J>, slots: &[Slot<J>]) -> bool
     requires { T.questions task.now ≡ J.questions }
 {
     for at in 0..board.cells.len() {
-        if let Some(cell) = undecided_at(board, places, at) {
+        if let Some(cell) = undecided_at(board, slots, at) {
             if settle_half(task, board, cell, at) {
                 return true;
             }
@@ -383,7 +375,7 @@ fn works_ahead<J: Asked, T: Task>(task: &T, team: &Team<J>, level: usize) -> boo
     requires { T.questions task.now ≡ J.questions }
 {
     match (level.checked_sub(1), team.board_above(level)) {
-        (Some(above), Some(board)) => settle_ahead(task, board, team.places(above)),
+        (Some(above), Some(board)) => settle_ahead(task, board, team.slots(above)),
         _ => false,
     }
 }
@@ -394,12 +386,12 @@ fn await_settled<'a, J: Asked, T: Task>(
     task: &T,
     team: &Team<J>,
     level: usize,
-    place: &'a Place<J>,
+    slot: &'a Slot<J>,
 ) -> Option<&'a Settled<J>>
     requires { T.questions task.now ≡ J.questions }
 {
     for turn in 0..PATIENCE {
-        if let Some(settled) = place.settled.get() {
+        if let Some(settled) = slot.settled.get() {
             return Some(settled);
         }
         work_or_wait(task, team, level.saturating_add(1), turn);
@@ -412,15 +404,15 @@ fn take_settled<J: Asked, T: Task>(
     task: &T,
     team: &Team<J>,
     level: usize,
-    place: Option<&Place<J>>,
+    slot: Option<&Slot<J>>,
     row: &mut Row,
 )
     requires same { T.questions task.now ≡ J.questions }
     requires cell { IsCell J.questions row.old.cell }
     ensures { row.new ≡ judged J.questions row.old }
 {
-    let settled = match place {
-        Some(place) => await_settled(task, team, level, place),
+    let settled = match slot {
+        Some(slot) => await_settled(task, team, level, slot),
         None => None,
     };
     match settled {
@@ -447,7 +439,7 @@ pub fn bound_together<J: Asked, T: Task>(
         team.end();
         return false;
     };
-    settle_cells(task, board, team.places(level));
+    settle_cells(task, board, team.slots(level));
     take_all(task, team, level, board, rows);
     true
 }
@@ -465,9 +457,9 @@ fn take_all<J: Asked, T: Task>(
     requires cells { All (λ row. IsCell J.questions row.cell) rows.old }
     ensures { rows.new ≡ map (judged J.questions) rows.old }
 {
-    let places = team.places(level);
+    let slots = team.slots(level);
     for (at, row) in rows.iter_mut().enumerate() {
-        take_settled(task, team, level, place_at(board, places, at), row);
+        take_settled(task, team, level, slot_at(board, slots, at), row);
     }
 }
 
@@ -479,7 +471,7 @@ pub fn help<J: Asked, T: Task>(task: &T, team: &Team<J>)
         let Some(board) = await_board(task, team, level, place) else {
             break;
         };
-        settle_cells(task, board, team.places(level));
+        settle_cells(task, board, team.slots(level));
     }
     team.end();
 }
