@@ -31,6 +31,10 @@ const LONG: usize = 524_288;
 /// A part has so many bytes or more, and then those up to the end of a line: some 0.8 ms of work.
 const PART: usize = 131_072;
 
+/// A line has so many bytes or more in most files. A part has room for the points of such lines before it is read, as threads whose
+/// lists grow wait for each other.
+const LINE: usize = 16;
+
 /// There are at most so many parts.
 const MOST_PARTS: usize = 64;
 
@@ -192,7 +196,7 @@ fn gather_helped<L: Lined + Send + Sync, R: Threads + Sync>(
     ensures { IfSome result (λ t. IsPart lines.now t) }
 {
     if helpers == 0 {
-        return gather_and_end(alloc, lines, parts);
+        return gather(alloc, lines, parts);
     }
     let others = helpers - 1;
     let (_, table) = join(
@@ -205,16 +209,6 @@ fn gather_helped<L: Lined + Send + Sync, R: Threads + Sync>(
             ensures { IfSome result (λ t. IsPart lines.entry.now t) }
         { gather_helped(rt, alloc, lines, parts, others) },
     );
-    table
-}
-
-// The same, and then nothing is left to read for other threads, even where a part was given up.
-fn gather_and_end<L: Lined>(alloc: Global, lines: &[u8], parts: &Parts<L>) -> Option<PointTable>
-    requires same { lines.now ≡ L.lines }
-    ensures { IfSome result (λ t. IsPart lines.now t) }
-{
-    let table = gather(alloc, lines, parts);
-    parts.next.store(parts.others.len(), Ordering::SeqCst);
     table
 }
 
@@ -388,5 +382,5 @@ fn read_lines(alloc: Global, lines: &[u8]) -> Option<PointTable>
 {
     let mut reader = records_in(alloc, lines);
     let mut entry = ByteRecord::new(alloc);
-    read_records(alloc, &mut reader, &mut entry).ok()
+    read_records(alloc, &mut reader, &mut entry, lines.len() / LINE).ok()
 }

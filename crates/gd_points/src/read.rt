@@ -70,23 +70,25 @@ fn read_whole(alloc: Global, bytes: &[u8]) -> Result<PointTable, ReadFault>
     let mut reader = records_in(alloc, without_mark(bytes));
     let mut entry = ByteRecord::new(alloc);
     read_header(&mut reader, &mut entry)?;
-    let table = read_records(alloc, &mut reader, &mut entry)?;
+    let table = read_records(alloc, &mut reader, &mut entry, 0)?;
     if table.is_empty() {
         return Err(Rule::NoPoints.broken_at(2, 0));
     }
     Ok(table)
 }
 
-// The table of the records that are left.
+// The table of the records that are left. There is room for so many before the first is read.
 pub(crate) fn read_records(
     alloc: Global,
     reader: &mut Reader<&[u8]>,
     entry: &mut ByteRecord,
+    room: usize,
 ) -> Result<PointTable, ReadFault>
     requires { IsBetween reader.old }
     ensures { Answers (λ t. t) result (with_records empty_table (records_left reader.old)) }
 {
     let mut table = PointTable::new(alloc);
+    table.make_room(room);
     while read_next(reader, entry)? {
         add_record(alloc, &mut table, entry)?;
     }

@@ -57,7 +57,6 @@ fn again(alloc: Global, name: &Name) -> Result<Name, Memory>
 {
     match Name::of(alloc, name.bytes())? {
         Some(other) => Ok(other),
-        // the bytes of a name are spelled as one
         None => Err(Memory),
     }
 }
