@@ -144,7 +144,16 @@ fn read_helped<L: Lined + Send + Sync, R: Threads + Sync>(
     ensures { IfSome result (λ t. IsPart lines.now t) }
 {
     let parts = parts_of::<L>(alloc, lines, count).ok()?;
-    gather_helped(rt, alloc, lines, &parts, helpers)
+    // the system starts a first thread on this processor and leaves it there, so it is one with nothing to do
+    let (_, table) = join(
+        rt,
+        || -> () {},
+        || -> Option<PointTable>
+            requires { IsSync R.row × (lines.now ≡ L.lines) }
+            ensures { IfSome result (λ t. IsPart lines.entry.now t) }
+        { gather_helped(rt, alloc, lines, &parts, helpers) },
+    );
+    table
 }
 
 // Some lines in so many parts, of like size.
@@ -196,7 +205,7 @@ fn gather_helped<L: Lined + Send + Sync, R: Threads + Sync>(
     ensures { IfSome result (λ t. IsPart lines.now t) }
 {
     if helpers == 0 {
-        return gather(alloc, lines, parts);
+        return gather_and_end(alloc, lines, parts);
     }
     let others = helpers - 1;
     let (_, table) = join(
@@ -209,6 +218,16 @@ fn gather_helped<L: Lined + Send + Sync, R: Threads + Sync>(
             ensures { IfSome result (λ t. IsPart lines.entry.now t) }
         { gather_helped(rt, alloc, lines, parts, others) },
     );
+    table
+}
+
+// The same, and then nothing is left to read for other threads, even where a part was given up.
+fn gather_and_end<L: Lined>(alloc: Global, lines: &[u8], parts: &Parts<L>) -> Option<PointTable>
+    requires same { lines.now ≡ L.lines }
+    ensures { IfSome result (λ t. IsPart lines.now t) }
+{
+    let table = gather(alloc, lines, parts);
+    parts.next.store(parts.others.len(), Ordering::SeqCst);
     table
 }
 

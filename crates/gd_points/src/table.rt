@@ -57,6 +57,7 @@ fn again(alloc: Global, name: &Name) -> Result<Name, Memory>
 {
     match Name::of(alloc, name.bytes())? {
         Some(other) => Ok(other),
+        // the bytes of a name are a name's
         None => Err(Memory),
     }
 }

@@ -211,7 +211,19 @@ fn search_in_team<J: Asked + Send + Sync, R: Threads + Sync, T: Task>(
         (task.roots(), task.floor_level() + 1)
     };
     let team = Team::<J>::new(alloc, roots, boards)?;
-    search_helped(rt, alloc, task, &team, budget, helpers)
+    if helpers == 0 {
+        return search_and_end(rt, alloc, task, &team, budget);
+    }
+    // the system starts a first thread on this processor and leaves it there, so it is one with nothing to do
+    let (_, outcome) = join(
+        rt,
+        || -> () {},
+        || -> Result<Outcome, Memory>
+            requires { IsSync R.row × (T.questions task.now ≡ J.questions) × (budget ≤ 1000000) }
+            ensures { IfOk result (λ o. IsVerdict (T.questions task.entry.now) budget (end_of o)) }
+        { search_helped(rt, alloc, task, &team, budget, helpers) },
+    );
+    outcome
 }
 
 /// Searches the cells of a task, level after level, and splits at most `budget` cells.

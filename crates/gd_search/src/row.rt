@@ -100,8 +100,8 @@ fn bound_parts<R: Threads + Sync, T: Task>(rt: &R, task: &T, rows: &mut [Row], p
     );
 }
 
-/// Bounds the cells of a level, from what was found in the level above. Where there is enough to do, several threads share them: the helpers of the team where the level is
-/// narrow, and else threads that this level starts.
+/// Bounds the cells of a level, from what was found in the level above. Where there is enough to do, several threads share
+/// them: the helpers of the team where the level is narrow, and else threads that this level starts.
 pub fn bound_level<J: Asked, R: Threads + Sync, T: Task>(
     rt: &R,
     alloc: Global,
