@@ -148,19 +148,13 @@ mod tests {
     use gd_dir::{FormShape, dir_box};
     use gd_points::read_points;
     use std::alloc::Global;
-    use std::thread::Threads;
 
     // The first evidence against a whole face for the points of a file, to 10 units.
-    fn evidence_against<R: Threads + Sync>(
-        rt: &R,
-        alloc: Global,
-        file: &[u8],
-        root: u32,
-    ) -> Option<Evidence>
+    fn evidence_against(alloc: Global, file: &[u8], root: u32) -> Option<Evidence>
         requires first { 1 ≤ root }
         requires last { root ≤ 3 }
     {
-        let table = read_points(rt, alloc, file).ok()?;
+        let table = read_points(alloc, file).ok()?;
         if table.is_empty() {
             return None;
         }
@@ -180,7 +174,7 @@ mod tests {
                 b: 1,
             };
             assert_eq!(rt;
-                evidence_against(&rt, rt.alloc(), corner, root),
+                evidence_against(rt.alloc(), corner, root),
                 Some(want),
                 "{root}"
             );

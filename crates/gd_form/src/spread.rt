@@ -97,18 +97,12 @@ mod tests {
     use crate::task::flat_task;
     use gd_points::read_points;
     use std::alloc::Global;
-    use std::thread::Threads;
 
     // Whether the points of a file lie within a tolerance along (1, 1, 0).
-    fn are_near<R: Threads + Sync>(
-        rt: &R,
-        alloc: Global,
-        file: &[u8],
-        tolerance: u32,
-    ) -> Option<bool>
+    fn are_near(alloc: Global, file: &[u8], tolerance: u32) -> Option<bool>
         requires { tolerance ≤ 16000000 }
     {
-        let table = read_points(rt, alloc, file).ok()?;
+        let table = read_points(alloc, file).ok()?;
         if table.is_empty() {
             return None;
         }
@@ -131,9 +125,9 @@ mod tests {
             (b"feature,group,x,y,z\na,0,0,0,0\na,0,-8,-7,0\n", false),
         ];
         for (file, near) in to_ten {
-            assert_eq!(rt; are_near(&rt, rt.alloc(), file, 10), Some(near), "{file:?}");
+            assert_eq!(rt; are_near(rt.alloc(), file, 10), Some(near), "{file:?}");
         }
         let across = b"feature,group,x,y,z\na,0,0,0,0\na,0,1000,-1000,0\n";
-        assert_eq!(rt; are_near(&rt, rt.alloc(), across, 0), Some(true));
+        assert_eq!(rt; are_near(rt.alloc(), across, 0), Some(true));
     }
 }

@@ -1,10 +1,11 @@
 -- Two tables one behind the other, as of two parts of one file.
-use Rattle.std.specs.Prelude.{ℕ, ◌≡◌, ◌≤◌, ◌+◌, ◌++◌, Bool, false, ◌==◌, List, length, [], ◌∷◌, Ok, get_or, map, nat_eq}
+use Rattle.std.specs.Prelude.{ℕ, ◌≡◌, ◌≤◌, ◌+◌, ◌⊎◌, ◌++◌, Bool, false, ◌==◌, List, Option, codes, drop, length, take, [], ◌∷◌, Ok, get_or, map, nat_eq}
+use Rattle.std.specs.Option.{unwrap_or}
 use Rattle.std.specs.Cmp.Lexicographic.{pointwise}
 use Rattle.std.specs.List.{list_any, position_or_len, slice_range}
 use Rattle.csv.specs.Reading.{default_config, records}
 use Rattle.indexmap.specs.IndexSet.{insert_all, insert_key}
-use Rattle.gd_points.specs.Points.{with_records}
+use Rattle.gd_points.specs.Points.{points, points_from, with_records}
 use Rattle.gd_points.specs.Table.{Table, empty_table}
 use Rattle.gd_points.specs.declared.table.Label.{Label}
 use Rattle.gd_points.specs.declared.table.Row.{Row}
@@ -47,3 +48,23 @@ IsPart lines t = (list_any is_quote lines ≡ false) × (with_records empty_tabl
 -- the table of the lines from one byte to another
 abbrev pub IsRange : List ℕ → ℕ → ℕ → Table → Type 0
 IsRange lines from to t = (from ≤ to) × (to ≤ length lines) × IsPart (slice_range lines from to) t
+
+-- the lines that threads agree on are those behind a header of so many bytes, and they are told where the bytes are
+abbrev pub AreLinesOf : Bool → List ℕ → Bool → Option (List ℕ) → ℕ → Type 0
+AreLinesOf tells lines told bytes header = (told ≡ tells) × (drop header (unwrap_or bytes []) ≡ lines)
+
+-- the table of all lines behind a header of so many bytes, in a file that isn't too long
+abbrev pub IsWhole : List ℕ → ℕ → Table → Type 0
+IsWhole lines header t = (header + length lines ≤ 134217728) × IsPart lines t
+
+-- a text that heads a points file: what follows it has the records of the points
+abbrev pub IsHeader : List ℕ → Type 0
+IsHeader text = (body : List ℕ) → points (text ++ body) ≡ points_from empty_table (records default_config body)
+
+-- a file begins with so many bytes that head it
+abbrev pub IsHeaderBefore : ℕ → List ℕ → Type 0
+IsHeaderBefore header bytes = (header ≤ length bytes) × IsHeader (take header bytes)
+
+-- a text is the header as most files spell it, and then this body
+abbrev pub IsHeaderLine : List ℕ → List ℕ → Type 0
+IsHeaderLine bytes body = (bytes ≡ codes "feature,group,x,y,z\n" ++ body) ⊎ (bytes ≡ codes "feature,group,x,y,z\r\n" ++ body)

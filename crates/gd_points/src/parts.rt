@@ -1,22 +1,23 @@
-// A long points file, read in parts side by side.
+// A long points file, read in parts side by side, each straight from where it is kept.
 //
-// Only a file with nothing out of the ordinary is read so. Where a part meets a quote, a second mark, a fault or want of
-// memory, nothing is given, and the file is read as a whole.
+// Only a file with nothing out of the ordinary is read so. Where a part meets a quote, a second mark, a fault or want
+// of memory, nothing is given, and the file is to be read as a whole.
 //
 // Each thread takes the next part that nobody has. The first part is the caller's, which puts the points of the others
-// behind it, part after part, while they are read.
-ghost use Rattle.std.specs.Prelude.{◌≡◌, ◌<◌, ◌-◌, ℕ, List, [], true, false, Ok, IfSome, get_or};
+// behind it, part after part, while they are read. A part has the lines that begin in some bytes of the file, but for
+// the first of them: a thread looks at these bytes and some more, and finds where its lines begin and end.
+ghost use Rattle.std.specs.Prelude.{◌≡◌, ◌<◌, ◌≤◌, ◌+◌, ◌-◌, ℕ, Bool, List, [], true, false, Ok, IfOk, IfSome, IsSomeAnd, length, take, drop, get_or};
 ghost use Rattle.std.specs.List.{list_any};
+ghost use Rattle.std.specs.Option.{unwrap_or};
 ghost use Rattle.std.specs.Thread.{IsSync};
 ghost use Rattle.csv.specs.Reading.{default_config, records, strip_bom};
-ghost use Rattle.gd_points.specs.Joined.{IsPart, IsRange, is_quote};
-ghost use Rattle.gd_points.specs.Points.{points, points_from, points_of};
-ghost use Rattle.gd_points.specs.Table.{empty_table};
+ghost use Rattle.gd_points.specs.Joined.{AreLinesOf, IsHeader, IsHeaderBefore, IsHeaderLine, IsPart, IsRange, IsWhole, is_quote};
+ghost use Rattle.gd_points.specs.Points.{points};
 
-use crate::PointTable;
 use crate::read::{read_records, records_in, without_mark};
+use crate::{PointTable, Source};
 use csv::ByteRecord;
-use gd_base::limits::POINTS;
+use gd_base::limits::{FILE_BYTES, POINTS};
 use memchr::memchr;
 use std::alloc::{AllocError, Global};
 use std::hint::spin_loop;
@@ -28,11 +29,17 @@ use std::thread::{Threads, available_parallelism, join, yield_now};
 /// A file of fewer bytes is read by one thread.
 const LONG: usize = 524_288;
 
-/// A part has so many bytes or more, and then those up to the end of a line: some 0.8 ms of work.
+/// A part has so many bytes or more: some 0.8 ms of work.
 const PART: usize = 131_072;
 
-/// A line has so many bytes or more in most files. A part has room for the points of such lines before it is read, as threads whose
-/// lists grow wait for each other.
+/// So many bytes more a thread looks at, to find where the last line of its part ends.
+const LINE_MORE: usize = 4_096;
+
+/// So many bytes the header and a byte order mark have at most.
+const HEADER: usize = 24;
+
+/// A line has so many bytes or more in most files. A part has room for the points of such lines before it is read, as
+/// threads whose lists grow wait for each other.
 const LINE: usize = 16;
 
 /// There are at most so many parts.
@@ -47,60 +54,96 @@ const PATIENCE: u32 = 4_000_000;
 /// So many turns it looks again at once. Then it lets another thread run.
 const LOOKS: u32 = 64;
 
-/// What the threads that read agree on: the lines. Each reading picks them.
+/// What the threads that read agree on: whether the lines are told, and the lines. Each reading picks them.
 pub(crate) trait Lined {
+    ghost tells: { Bool };
+
     ghost lines: { List ℕ };
 }
 
 impl Lined for Brand {
+    ghost tells = { false };
+
     ghost lines = { [] };
 }
 
-// The points of the lines from one byte to another, for each thread to see.
+// Some bytes of the lines, from one on, and whether they are the last.
+#[derive(Drop)]
+struct Window<'a, L: Lined> {
+    from: usize,
+    bytes: &'a [u8],
+    is_last: bool,
+    of: PhantomData<L>,
+    ghost seen: { L.tells ≡ true → bytes.now ≡ take (length bytes.now) (drop from L.lines) },
+    ghost last: { L.tells ≡ true → is_last ≡ true → length L.lines ≤ from + length bytes.now },
+}
+
+// The points of the lines from one byte to another, for each thread to see, and whether these lines are the last.
 #[derive(Drop)]
 struct PartRead<L: Lined> {
     from: usize,
     to: usize,
+    is_last: bool,
     table: PointTable,
     of: PhantomData<L>,
-    ghost right: { IsRange L.lines from to table },
+    ghost right: { L.tells ≡ true → IsRange L.lines from to table },
+    ghost begins: { L.tells ≡ true → 0 < from → get_or L.lines (from - 1) 0 ≡ 10 },
+    ghost last: { L.tells ≡ true → is_last ≡ true → to ≡ length L.lines },
 }
 
-// Some lines, from one byte to another, and a place for what is read of them: nothing where that is out of the ordinary.
-#[derive(Drop)]
-struct Part<L: Lined> {
-    from: usize,
-    to: usize,
-    read: OnceLock<Option<PartRead<L>>>,
+/// How a file is cut: its header has so many bytes with the end of its line, and it has so many, in so many parts.
+#[derive(Clone, Copy)]
+pub(crate) struct Cut {
+    pub header: usize,
+    pub length: usize,
+    pub parts: usize,
 }
 
-// The parts of all lines in order. The first ends behind so many bytes and is the caller's.
+// The parts behind the header in order but the first, each of so many bytes: what is read of them, which is nothing
+// where that is out of the ordinary.
 #[derive(Drop)]
 struct Parts<L: Lined> {
-    first: usize,
-    others: Vec<Part<L>>,
+    header: usize,
+    size: usize,
+    others: Vec<OnceLock<Option<PartRead<L>>>>,
     next: AtomicUsize,
 }
 
-/// The table of a points file, if it is long and nothing in it is out of the ordinary.
-pub fn read_in_parts<R: Threads + Sync>(rt: &R, alloc: Global, bytes: &[u8]) -> Option<PointTable>
-    ensures { IfSome result (λ t. points bytes.now ≡ Ok t) }
+/// The table of a points file that is long, where nothing in it is out of the ordinary and there are threads to read it
+/// with. Else nothing, and the file is to be read as a whole.
+///
+/// A source that tells its bytes has no more than 134,217,728 of them then, and the table is the one that they stand
+/// for (docs/FORMATS.md, "Points file").
+pub fn read_in_parts<R: Threads + Sync, S: Source>(
+    rt: &R,
+    alloc: Global,
+    source: &S,
+) -> Option<PointTable>
+    ensures points { IfSome result (λ t. S.tells ≡ true → IsSomeAnd (S.bytes source.now) (λ bytes. (length bytes ≤ 134217728) × (points bytes ≡ Ok t))) }
+    ensures some { IfSome result (λ t. 0 < length t.rows) }
 {
-    let helpers = helpers_for(rt, bytes.len());
+    let size = source.size()?;
+    let helpers = helpers_for(rt, size);
     if helpers == 0 {
         return None;
     }
-    let lines = behind_header(without_mark(bytes))?;
-    let table = read_split(rt, alloc, lines, lines.len() / PART, helpers)?;
+    let header = header_of(source)?;
+    let cut = Cut {
+        header,
+        length: size,
+        parts: size / PART,
+    };
+    let table = read_split(rt, alloc, source, cut, helpers)?;
     if table.is_empty() {
         return None;
     }
     Some(table)
 }
 
-// How many threads help to read so many bytes: one a processor beside the caller's own.
+// How many threads help to read so many bytes: one a processor beside the caller's own. None for a file that is short, or
+// longer than a file may be.
 fn helpers_for<R: Threads + Sync>(rt: &R, length: usize) -> usize {
-    if length < LONG {
+    if length < LONG || FILE_BYTES < length {
         return 0;
     }
     match available_parallelism(rt) {
@@ -109,9 +152,25 @@ fn helpers_for<R: Threads + Sync>(rt: &R, length: usize) -> usize {
     }
 }
 
+// How many bytes the header has with the end of its line, if it is spelled as in most files.
+fn header_of<S: Source>(source: &S) -> Option<usize>
+    ensures { IfSome result (λ header. S.tells ≡ true → IsSomeAnd (S.bytes source.now) (λ bytes. IsHeaderBefore header bytes)) }
+{
+    let mut front = [0u8; HEADER];
+    let count = source.peek(0, front.as_mut_slice())?;
+    header_length(&front[..count])
+}
+
+fn header_length(front: &[u8]) -> Option<usize>
+    ensures { IfSome result (λ header. (header ≤ length front.now) × IsHeader (take header front.now)) }
+{
+    let body = behind_header(without_mark(front))?;
+    Some(front.len() - body.len())
+}
+
 // What follows the header, if it is spelled without quotes and its line ends in LF or CR LF.
 fn behind_header(bytes: &[u8]) -> Option<&[u8]>
-    ensures { IfSome result (λ body. points_of (records default_config (strip_bom bytes.now)) ≡ points_from empty_table (records default_config body.now)) }
+    ensures { IfSome result (λ body. IsHeaderLine bytes.now body.now) }
 {
     if let Some(body) = bytes.strip_prefix(b"feature,group,x,y,z\n".as_slice()) {
         return Some(body);
@@ -120,157 +179,165 @@ fn behind_header(bytes: &[u8]) -> Option<&[u8]>
     Some(body)
 }
 
-/// The table of some lines in so many parts, which so many threads help to read.
-pub(crate) fn read_split<R: Threads + Sync>(
+/// The table of the lines of a file that is cut so, which so many threads help to read.
+pub(crate) fn read_split<R: Threads + Sync, S: Source>(
     rt: &R,
     alloc: Global,
-    lines: &[u8],
-    count: usize,
+    source: &S,
+    cut: Cut,
     helpers: usize,
 ) -> Option<PointTable>
-    ensures { IfSome result (λ t. IsPart lines.now t) }
+    ensures { IfSome result (λ t. S.tells ≡ true → IsWhole (drop cut.header (unwrap_or (S.bytes source.now) [])) cut.header t) }
 {
-    read_helped::<Brand, R>(rt, alloc, lines, count, helpers)
+    read_helped::<Brand, R, S>(rt, alloc, source, cut, helpers)
 }
 
-fn read_helped<L: Lined + Send + Sync, R: Threads + Sync>(
+fn read_helped<L: Lined + Send + Sync, R: Threads + Sync, S: Source>(
     rt: &R,
     alloc: Global,
-    lines: &[u8],
-    count: usize,
+    source: &S,
+    cut: Cut,
     helpers: usize,
 ) -> Option<PointTable>
-    requires same { lines.now ≡ L.lines }
-    ensures { IfSome result (λ t. IsPart lines.now t) }
+    requires same { AreLinesOf L.tells L.lines S.tells (S.bytes source.now) cut.header }
+    ensures { IfSome result (λ t. L.tells ≡ true → IsWhole L.lines cut.header t) }
 {
-    let parts = parts_of::<L>(alloc, lines, count).ok()?;
-    // the system starts a first thread on this processor and leaves it there, so it is one with nothing to do
-    let (_, table) = join(
-        rt,
-        || -> () {},
-        || -> Option<PointTable>
-            requires { IsSync R.row × (lines.now ≡ L.lines) }
-            ensures { IfSome result (λ t. IsPart lines.entry.now t) }
-        { gather_helped(rt, alloc, lines, &parts, helpers) },
-    );
-    table
+    let parts = parts_of::<L>(alloc, cut).ok()?;
+    gather_beside(rt, alloc, source, &parts, helpers)
 }
 
-// Some lines in so many parts, of like size.
-fn parts_of<L: Lined>(alloc: Global, lines: &[u8], count: usize) -> Result<Parts<L>, AllocError> {
-    let count = count.clamp(1, MOST_PARTS);
-    let size = lines.len() / count;
-    let first = end_of_line(lines, size);
+// The parts of a file that is cut so, of like size.
+fn parts_of<L: Lined>(alloc: Global, cut: Cut) -> Result<Parts<L>, AllocError>
+    ensures { IfOk result (λ parts. parts.header ≡ cut.header) }
+{
+    let count = cut.parts.clamp(1, MOST_PARTS);
     let mut others = Vec::with_capacity(alloc, count)?;
-    let mut from = first;
     for _part in 1..count {
-        if from == lines.len() {
-            break;
-        }
-        let to = end_of_line(lines, from.saturating_add(size));
-        others.push(Part {
-            from,
-            to,
-            read: OnceLock::new(),
-        })?;
-        from = to;
+        others.push(OnceLock::new())?;
     }
     Ok(Parts {
-        first,
+        header: cut.header,
+        size: cut.length.div_ceil(count),
         others,
         next: AtomicUsize::new(0),
     })
 }
 
-// Where the line ends that has this byte: behind its LF, or with the lines.
-fn end_of_line(lines: &[u8], at: usize) -> usize {
-    let Some(rest) = lines.get(at..) else {
-        return lines.len();
-    };
-    match memchr(b'\n', rest) {
-        Some(length) => at + length + 1,
-        None => lines.len(),
-    }
-}
-
-// The same, by so many threads more.
-fn gather_helped<L: Lined + Send + Sync, R: Threads + Sync>(
+// The points of all parts, which so many threads help to read.
+fn gather_helped<L: Lined + Send + Sync, R: Threads + Sync, S: Source>(
     rt: &R,
     alloc: Global,
-    lines: &[u8],
+    source: &S,
     parts: &Parts<L>,
     helpers: usize,
 ) -> Option<PointTable>
-    requires same { lines.now ≡ L.lines }
-    ensures { IfSome result (λ t. IsPart lines.now t) }
+    requires same { AreLinesOf L.tells L.lines S.tells (S.bytes source.now) parts.now.header }
+    ensures { IfSome result (λ t. L.tells ≡ true → IsWhole L.lines parts.now.header t) }
 {
     if helpers == 0 {
-        return gather_and_end(alloc, lines, parts);
+        return gather_and_end(alloc, source, parts);
     }
     let others = helpers - 1;
     let (_, table) = join(
         rt,
         || -> ()
-            requires { lines.now ≡ L.lines }
-        { read_parts(alloc, lines, parts) },
+            requires { AreLinesOf L.tells L.lines S.tells (S.bytes source.now) parts.now.header }
+        { read_parts(alloc, source, parts) },
         || -> Option<PointTable>
-            requires { IsSync R.row × (lines.now ≡ L.lines) }
-            ensures { IfSome result (λ t. IsPart lines.entry.now t) }
-        { gather_helped(rt, alloc, lines, parts, others) },
+            requires { IsSync R.row × AreLinesOf L.tells L.lines S.tells (S.bytes source.now) parts.now.header }
+            ensures { IfSome result (λ t. L.tells ≡ true → IsWhole L.lines parts.entry.now.header t) }
+        { gather_helped(rt, alloc, source, parts, others) },
     );
     table
 }
 
-// The same, and then nothing is left to read for other threads, even where a part was given up.
-fn gather_and_end<L: Lined>(alloc: Global, lines: &[u8], parts: &Parts<L>) -> Option<PointTable>
-    requires same { lines.now ≡ L.lines }
-    ensures { IfSome result (λ t. IsPart lines.now t) }
+// The same, and first a thread that has nothing to do: the system starts a first one on this processor and leaves it
+// there.
+fn gather_beside<L: Lined + Send + Sync, R: Threads + Sync, S: Source>(
+    rt: &R,
+    alloc: Global,
+    source: &S,
+    parts: &Parts<L>,
+    helpers: usize,
+) -> Option<PointTable>
+    requires same { AreLinesOf L.tells L.lines S.tells (S.bytes source.now) parts.now.header }
+    ensures { IfSome result (λ t. L.tells ≡ true → IsWhole L.lines parts.now.header t) }
 {
-    let table = gather(alloc, lines, parts);
-    parts.next.store(parts.others.len(), Ordering::SeqCst);
+    let (_, table) = join(
+        rt,
+        || -> () {},
+        || -> Option<PointTable>
+            requires { IsSync R.row × AreLinesOf L.tells L.lines S.tells (S.bytes source.now) parts.now.header }
+            ensures { IfSome result (λ t. L.tells ≡ true → IsWhole L.lines parts.entry.now.header t) }
+        { gather_helped(rt, alloc, source, parts, helpers) },
+    );
     table
 }
 
-// The points of the first part, and behind them those of the others.
-fn gather<L: Lined>(alloc: Global, lines: &[u8], parts: &Parts<L>) -> Option<PointTable>
-    requires same { lines.now ≡ L.lines }
-    ensures { IfSome result (λ t. IsPart lines.now t) }
+// The points of all parts. Then nothing is left to read for other threads, even where a part was given up.
+fn gather_and_end<L: Lined, S: Source>(
+    alloc: Global,
+    source: &S,
+    parts: &Parts<L>,
+) -> Option<PointTable>
+    requires same { AreLinesOf L.tells L.lines S.tells (S.bytes source.now) parts.now.header }
+    ensures { IfSome result (λ t. L.tells ≡ true → IsWhole L.lines parts.now.header t) }
 {
-    let mut so_far = with_room(read_range(alloc, lines, 0, parts.first)?, lines.len());
-    for part in &parts.others {
-        let next = await_part(alloc, lines, parts, part)?;
-        so_far = with_next(alloc, lines, so_far, next)?;
-    }
-    all_of(lines, so_far)
+    let read = gather(alloc, source, parts);
+    parts.next.store(parts.others.len(), Ordering::SeqCst);
+    all_of(parts.header, read?)
 }
 
-// The points of all lines, if no line is left out.
-#[tactic(auto, using(crate::proofs::Ranges::whole_range))]
-fn all_of<L: Lined>(lines: &[u8], read: PartRead<L>) -> Option<PointTable>
-    requires same { lines.now ≡ L.lines }
-    ensures { IfSome result (λ t. IsPart lines.now t) }
+// The points of the first part, and behind them those of the others, up to the last lines.
+fn gather<L: Lined, S: Source>(alloc: Global, source: &S, parts: &Parts<L>) -> Option<PartRead<L>>
+    requires same { AreLinesOf L.tells L.lines S.tells (S.bytes source.now) parts.now.header }
 {
-    if read.from == 0 && read.to == lines.len() {
+    let mut room = room_for(alloc, parts.size).ok()?;
+    let first = read_part_at(alloc, source, parts, 0, room.as_mut_slice())?;
+    let mut so_far = with_room(first, parts.others.len());
+    for part in &parts.others {
+        if so_far.is_last {
+            break;
+        }
+        let next = await_part(alloc, source, parts, part, room.as_mut_slice())?;
+        so_far = with_next(alloc, so_far, next)?;
+    }
+    Some(so_far)
+}
+
+// The points of all lines, if no line is left out and the file isn't too long.
+fn all_of<L: Lined>(header: usize, read: PartRead<L>) -> Option<PointTable>
+    ensures { IfSome result (λ t. L.tells ≡ true → IsWhole L.lines header t) }
+{
+    if read.from == 0 && read.is_last && is_short(header, read.to) {
         Some(read.table)
     } else {
         None
     }
 }
 
+// Whether so many bytes and so many more are no more than a file may have.
+fn is_short(front: usize, rest: usize) -> bool
+    ensures { result ≡ true → front + rest ≤ 134217728 }
+{
+    front <= FILE_BYTES && rest <= FILE_BYTES - front
+}
+
 // What was read of a part. Until it is there, this thread reads other parts.
-fn await_part<'a, L: Lined>(
+fn await_part<'a, L: Lined, S: Source>(
     alloc: Global,
-    lines: &[u8],
+    source: &S,
     parts: &Parts<L>,
-    part: &'a Part<L>,
+    part: &'a OnceLock<Option<PartRead<L>>>,
+    room: &mut [u8],
 ) -> Option<&'a PartRead<L>>
-    requires same { lines.now ≡ L.lines }
+    requires same { AreLinesOf L.tells L.lines S.tells (S.bytes source.now) parts.now.header }
 {
     for turn in 0..PATIENCE {
-        if let Some(read) = part.read.get() {
+        if let Some(read) = part.get() {
             return read.as_ref();
         }
-        if !read_next(alloc, lines, parts) {
+        if !read_next(alloc, source, parts, room) {
             wait_turn(turn);
         }
     }
@@ -287,73 +354,141 @@ fn wait_turn(turn: u32) {
 }
 
 // Reads the parts that no other thread has taken.
-fn read_parts<L: Lined>(alloc: Global, lines: &[u8], parts: &Parts<L>)
-    requires same { lines.now ≡ L.lines }
+fn read_parts<L: Lined, S: Source>(alloc: Global, source: &S, parts: &Parts<L>)
+    requires same { AreLinesOf L.tells L.lines S.tells (S.bytes source.now) parts.now.header }
 {
+    let Ok(mut room) = room_for(alloc, parts.size) else {
+        return;
+    };
     for _turn in 0..MOST_PARTS {
-        if !read_next(alloc, lines, parts) {
+        if !read_next(alloc, source, parts, room.as_mut_slice()) {
             return;
         }
     }
 }
 
+// Room for the bytes that a thread looks at for a part of so many.
+fn room_for(alloc: Global, size: usize) -> Result<Vec<u8>, AllocError> {
+    Vec::from_elem(alloc, 0u8, size.saturating_add(LINE_MORE))
+}
+
 // Reads the next part that no thread has taken. False where there is none.
-fn read_next<L: Lined>(alloc: Global, lines: &[u8], parts: &Parts<L>) -> bool
-    requires same { lines.now ≡ L.lines }
+fn read_next<L: Lined, S: Source>(
+    alloc: Global,
+    source: &S,
+    parts: &Parts<L>,
+    room: &mut [u8],
+) -> bool
+    requires same { AreLinesOf L.tells L.lines S.tells (S.bytes source.now) parts.now.header }
 {
     let at = parts.next.fetch_add(1, Ordering::SeqCst);
     let Some(part) = parts.others.get(at) else {
         return false;
     };
-    let _ = part
-        .read
-        .try_set(read_range(alloc, lines, part.from, part.to));
+    let read = read_part_at(alloc, source, parts, at.saturating_add(1), room);
+    let _ = part.try_set(read);
     true
 }
 
-// The points of the lines from one byte to another.
-fn read_range<L: Lined>(alloc: Global, lines: &[u8], from: usize, to: usize) -> Option<PartRead<L>>
-    requires same { lines.now ≡ L.lines }
+// The points of a part by its number, from 0.
+fn read_part_at<L: Lined, S: Source>(
+    alloc: Global,
+    source: &S,
+    parts: &Parts<L>,
+    number: usize,
+    room: &mut [u8],
+) -> Option<PartRead<L>>
+    requires same { AreLinesOf L.tells L.lines S.tells (S.bytes source.now) parts.now.header }
 {
-    let table = read_part(alloc, lines.get(from..to)?)?;
-    Some(PartRead {
+    let window = look(source, parts, parts.size.saturating_mul(number), room)?;
+    read_window(alloc, &window, parts.size)
+}
+
+// Some bytes of the lines from one on, as many as there are and as fit.
+fn look<'a, L: Lined, S: Source>(
+    source: &S,
+    parts: &Parts<L>,
+    from: usize,
+    room: &'a mut [u8],
+) -> Option<Window<'a, L>>
+    requires same { AreLinesOf L.tells L.lines S.tells (S.bytes source.now) parts.now.header }
+{
+    let count = source.peek(parts.header.checked_add(from)?, room)?;
+    let is_last = count < room.len();
+    Some(Window {
         from,
-        to,
+        bytes: &room[..count],
+        is_last,
+        of: PhantomData,
+    })
+}
+
+// The points of the lines that begin in the first bytes of a window, so many. But for the first window of a file, what
+// ends the line before them is among these bytes.
+fn read_window<L: Lined>(
+    alloc: Global,
+    window: &Window<'_, L>,
+    size: usize,
+) -> Option<PartRead<L>> {
+    let begin = first_line(window.from, window.bytes)?;
+    let end = end_of_line(window.bytes, size);
+    let table = read_part(alloc, window.bytes.get(begin..end)?)?;
+    Some(PartRead {
+        from: window.from.checked_add(begin)?,
+        to: window.from.checked_add(end)?,
+        is_last: ends_lines(window, end),
         table,
         of: PhantomData,
     })
 }
 
-// The same, with room for the points of so many bytes where all lines are like these.
-fn with_room<L: Lined>(read: PartRead<L>, length: usize) -> PartRead<L> {
-    let PartRead {
-        from,
-        to,
-        mut table,
-        of,
-    } = read;
-    let count = table.len();
-    let times = length.div_ceil(to.max(1));
-    let all = POINTS.min(count.saturating_mul(times));
-    table.make_room(all.saturating_sub(count));
-    PartRead {
-        from,
-        to,
-        table,
-        of,
+// Whether a window has all lines up to the last, and ends with this byte.
+fn ends_lines<L: Lined>(window: &Window<'_, L>, end: usize) -> bool
+    ensures { result ≡ true → (window.now.is_last ≡ true) × (end ≡ length window.now.bytes.now) }
+{
+    window.is_last && end == window.bytes.len()
+}
+
+// Where the first line of a window begins: with the first byte of all lines, or behind an LF.
+fn first_line(from: usize, bytes: &[u8]) -> Option<usize>
+    ensures within { IfSome result (λ begin. begin ≤ length bytes.now) }
+    ensures first { from ≡ 0 → IfSome result (λ begin. begin ≡ 0) }
+    ensures behind { 0 < from → IfSome result (λ begin. (0 < begin) × (get_or bytes.now (begin - 1) 0 ≡ 10)) }
+{
+    if from == 0 {
+        return Some(0);
     }
+    let at = memchr(b'\n', bytes)?;
+    Some(at + 1)
+}
+
+// Where the line ends that has this byte: behind its LF, or with the bytes.
+fn end_of_line(bytes: &[u8], at: usize) -> usize
+    ensures { result ≤ length bytes.now }
+{
+    let Some(rest) = bytes.get(at..) else {
+        return bytes.len();
+    };
+    match memchr(b'\n', rest) {
+        Some(length) => at + length + 1,
+        None => bytes.len(),
+    }
+}
+
+// The same, with room for the points of so many parts more where all lines are like these.
+fn with_room<L: Lined>(mut read: PartRead<L>, parts: usize) -> PartRead<L> {
+    let more = read.table.len().saturating_mul(parts);
+    read.table.make_room(more.min(POINTS));
+    read
 }
 
 // Some points and then those of the lines behind theirs, if they aren't too many.
 fn with_next<L: Lined>(
     alloc: Global,
-    lines: &[u8],
     so_far: PartRead<L>,
     next: &PartRead<L>,
-) -> Option<PartRead<L>>
-    requires same { lines.now ≡ L.lines }
-{
-    if !meet(lines, so_far.from, so_far.to, next.from) {
+) -> Option<PartRead<L>> {
+    if so_far.from >= so_far.to || so_far.to != next.from {
         return None;
     }
     if so_far.table.len() + next.table.len() > POINTS {
@@ -363,16 +498,10 @@ fn with_next<L: Lined>(
     Some(PartRead {
         from: so_far.from,
         to: next.to,
+        is_last: next.is_last,
         table,
         of: PhantomData,
     })
-}
-
-// Whether some lines end behind an LF, where the next begin.
-fn meet(lines: &[u8], from: usize, to: usize, next: usize) -> bool
-    ensures { result ≡ true → (from < to) × (to ≡ next) × (get_or lines.now (to - 1) 0 ≡ 10) }
-{
-    from < to && to == next && to <= lines.len() && lines[to - 1] == b'\n'
 }
 
 // The table of some lines without a quote, of which the first has no byte order mark.

@@ -12,14 +12,12 @@ ghost use Rattle.gd_points.specs.declared.rule.Rule.TheVariants as rule;
 ghost use Rattle.gd_vec.specs.Vector.{IsWithin};
 
 use crate::number::read_number;
-use crate::parts::read_in_parts;
 use crate::{PointTable, Rule};
 use csv::{ByteRecord, Reader, ReaderBuilder};
 use gd_base::limits::{COORDINATE, GROUP, POINTS};
 use gd_base::{Memory, Name, ReadFault};
 use gd_vec::V3;
 use std::alloc::Global;
-use std::thread::Threads;
 
 // The fields of a record of five.
 #[derive(Drop)]
@@ -48,23 +46,8 @@ struct PointRead {
 
 /// The table of a points file (docs/FORMATS.md, "Points file"), or the first fault of it.
 /// A byte order mark is dropped, and `csv` drops one more.
-/// A long file with nothing out of the ordinary is read in parts side by side, which changes nothing of the answer.
 /// `Memory` is answered for each error of `csv` too: over bytes in memory it has no other cause.
-pub fn read_points<R: Threads + Sync>(
-    rt: &R,
-    alloc: Global,
-    bytes: &[u8],
-) -> Result<PointTable, ReadFault>
-    ensures { Answers (λ t. t) result (points bytes.now) }
-{
-    match read_in_parts(rt, alloc, bytes) {
-        Some(table) => Ok(table),
-        None => read_whole(alloc, bytes),
-    }
-}
-
-// The same from the first byte to the last.
-fn read_whole(alloc: Global, bytes: &[u8]) -> Result<PointTable, ReadFault>
+pub fn read_points(alloc: Global, bytes: &[u8]) -> Result<PointTable, ReadFault>
     ensures { Answers (λ t. t) result (points bytes.now) }
 {
     let mut reader = records_in(alloc, without_mark(bytes));

@@ -169,7 +169,8 @@ impl PointTable {
         Ok(())
     }
 
-    /// Makes room for so many points more, which spares a table that grows its moves. Want of memory is told by those points.
+    /// Makes room for so many points more, which spares a table that grows its moves. Want of memory is told by those
+    /// points.
     pub(crate) fn make_room(&mut self, more: usize)
         ensures { self.new ≡ self.old }
     {

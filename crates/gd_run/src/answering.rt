@@ -13,7 +13,8 @@ ghost use Rattle.gd_world.specs.Shelf.{IsWord, SameFiles};
 
 use crate::checking::bytes_line;
 use crate::command::{CheckCommand, Command, FlatCommand};
-use crate::judging::judge_flat;
+use crate::judging::{judge_flat, judge_table};
+use crate::points_file::table_in_parts;
 use crate::report::{Report, Stop, only_line};
 use crate::texts::{input_line, invalid_line, too_long_line, wrong_words_line};
 use crate::words::command_of;
@@ -49,8 +50,7 @@ fn check_file<'a, S: Shelf>(
 }
 
 // The answer to `checkflat` for the bytes of a points file.
-fn check_points<'a, R: Threads + Sync, S: Shelf>(
-    rt: &R,
+fn check_points<'a, S: Shelf>(
     alloc: Global,
     command: &CheckCommand<'a>,
     bytes: &[u8],
@@ -62,10 +62,31 @@ fn check_points<'a, R: Threads + Sync, S: Shelf>(
     ensures same { SameFiles (S.holds shelf.old) (S.holds shelf.new) }
     ensures later { S.faults shelf.old ≤ S.faults shelf.new }
 {
-    match read_points(rt, alloc, bytes) {
+    match read_points(alloc, bytes) {
         Ok(table) => check_file(alloc, command, &table, shelf),
         Err(ReadFault::Input(fault)) => only_line(input_line(alloc, command.points, fault)),
         Err(ReadFault::Memory) => Err(Stop::Memory),
+    }
+}
+
+// The answer to `checkflat`, whose points file is loaded and read as a whole.
+fn load_and_check<'a, S: Shelf>(
+    alloc: Global,
+    command: &CheckCommand<'a>,
+    shelf: &mut S,
+) -> Result<Report<'a>, Stop<'a>>
+    ensures answer { S.tells ≡ true → OnReport (λ r. IsAnswerTo (ForCheck (check_of command.now)) (S.holds shelf.old) (answer_in r)) (λ w. IsToLoad (ForCheck (check_of command.now)) (S.holds shelf.old) w) result }
+    ensures kind { OnReport IsCheckKind (λ w. IsOfFile (ForCheck (check_of command.now)) w) result }
+    ensures unread { OnReport (λ r. Unit {0}) (λ w. Rose (S.faults shelf.old) (S.faults shelf.new) × IsWord (S.failed shelf.new) w false) result }
+    ensures same { SameFiles (S.holds shelf.old) (S.holds shelf.new) }
+    ensures later { S.faults shelf.old ≤ S.faults shelf.new }
+{
+    let mut bytes = Vec::new(alloc);
+    match shelf.load(alloc, command.points, &mut bytes) {
+        Ok(()) => check_points(alloc, command, bytes.as_slice(), shelf),
+        Err(LoadFault::Failed) => Err(Stop::Unread(command.points)),
+        Err(LoadFault::TooLong) => only_line(too_long_line(alloc, command.points)),
+        Err(LoadFault::Memory) => Err(Stop::Memory),
     }
 }
 
@@ -82,17 +103,14 @@ fn answer_check<'a, R: Threads + Sync, S: Shelf>(
     ensures same { SameFiles (S.holds shelf.old) (S.holds shelf.new) }
     ensures later { S.faults shelf.old ≤ S.faults shelf.new }
 {
-    let mut bytes = Vec::new(alloc);
-    match shelf.load(alloc, command.points, &mut bytes) {
-        Ok(()) => check_points(rt, alloc, command, bytes.as_slice(), shelf),
-        Err(LoadFault::Failed) => Err(Stop::Unread(command.points)),
-        Err(LoadFault::TooLong) => only_line(too_long_line(alloc, command.points)),
-        Err(LoadFault::Memory) => Err(Stop::Memory),
+    match table_in_parts(rt, alloc, &*shelf, command.points) {
+        Some(table) => check_file(alloc, command, &table, shelf),
+        None => load_and_check(alloc, command, shelf),
     }
 }
 
-// The answer to `flat`.
-fn answer_flat<'a, R: Threads + Sync, S: Shelf>(
+// The answer to `flat`, whose points file is loaded and read as a whole.
+fn load_and_judge<'a, R: Threads + Sync, S: Shelf>(
     rt: &R,
     alloc: Global,
     flat: &FlatCommand<'a>,
@@ -110,6 +128,25 @@ fn answer_flat<'a, R: Threads + Sync, S: Shelf>(
         Err(LoadFault::Failed) => Err(Stop::Unread(flat.points)),
         Err(LoadFault::TooLong) => only_line(too_long_line(alloc, flat.points)),
         Err(LoadFault::Memory) => Err(Stop::Memory),
+    }
+}
+
+// The answer to `flat`.
+fn answer_flat<'a, R: Threads + Sync, S: Shelf>(
+    rt: &R,
+    alloc: Global,
+    flat: &FlatCommand<'a>,
+    shelf: &mut S,
+) -> Result<Report<'a>, Stop<'a>>
+    ensures answer { S.tells ≡ true → OnReport (λ r. IsAnswerTo (ForFlat (flat_of flat.now)) (S.holds shelf.old) (answer_in r)) (λ w. Unit {0}) result }
+    ensures kind { OnReport (IsFlatKind (flat_of flat.now)) (λ w. w ≡ (flat_of flat.now).points) result }
+    ensures unread { OnReport (λ r. Unit {0}) (λ w. Rose (S.faults shelf.old) (S.faults shelf.new) × IsWord (S.failed shelf.new) w false) result }
+    ensures same { SameFiles (S.holds shelf.old) (S.holds shelf.new) }
+    ensures later { S.faults shelf.old ≤ S.faults shelf.new }
+{
+    match table_in_parts(rt, alloc, &*shelf, flat.points) {
+        Some(table) => judge_table(rt, alloc, flat, &table),
+        None => load_and_judge(rt, alloc, flat, shelf),
     }
 }
 

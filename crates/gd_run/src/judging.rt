@@ -84,8 +84,8 @@ fn certificate_text(alloc: Global, outcome: Outcome, budget: u32) -> Result<Vec<
     write_cert(alloc, &cert)
 }
 
-// The answer for the points of a file.
-fn judge_table<'a, R: Threads + Sync>(
+/// The answer for the points of a file.
+pub fn judge_table<'a, R: Threads + Sync>(
     rt: &R,
     alloc: Global,
     flat: &FlatCommand<'a>,
@@ -116,7 +116,7 @@ pub fn judge_flat<'a, R: Threads + Sync>(
 ) -> Result<Report<'a>, Stop<'a>>
     ensures { OnReport (λ r. IsFlatAnswerOfTable (flat_of flat.now) (points bytes.now) (answer_in r)) (λ w. ⊥) result }
 {
-    match read_points(rt, alloc, bytes) {
+    match read_points(alloc, bytes) {
         Ok(table) => judge_table(rt, alloc, flat, &table),
         Err(ReadFault::Input(fault)) => only_line(input_line(alloc, flat.points, fault)),
         Err(ReadFault::Memory) => Err(Stop::Memory),

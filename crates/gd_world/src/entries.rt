@@ -1,5 +1,5 @@
 // Entries of names and bytes, of which the first of a name counts.
-ghost use Rattle.std.specs.Prelude.{◌≡◌, ◌≤◌, ◌<◌, ◌∷◌, [], length, option_map, OnOk, OnErr, IsErrOf};
+ghost use Rattle.std.specs.Prelude.{◌≡◌, ◌≤◌, ◌<◌, ◌∷◌, [], length, option_map, take, drop, OnOk, OnErr, IsErrOf};
 ghost use Rattle.gd_world.specs.Shelf.{held};
 
 use crate::LoadFault;
@@ -44,4 +44,18 @@ pub(crate) fn copy_held(bytes: &[u8], into: &mut Vec<u8>) -> Result<(), LoadFaul
         return Err(LoadFault::TooLong);
     }
     Ok(into.extend_from_slice(bytes)?)
+}
+
+// Copies the bytes from a place on to the front of `into`, as many as fit, and says how many that were.
+pub(crate) fn copy_from(bytes: &[u8], from: usize, into: &mut [u8]) -> usize
+    ensures count { result ≤ length into.new }
+    ensures bytes { take result into.new ≡ take (length into.new) (drop from bytes.now) }
+{
+    if from > bytes.len() {
+        return 0;
+    }
+    let rest = &bytes[from..];
+    let count = rest.len().min(into.len());
+    into[..count].copy_from_slice(&rest[..count]);
+    count
 }

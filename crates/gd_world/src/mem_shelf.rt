@@ -1,10 +1,10 @@
 // A shelf in memory, whose calls fail where a list says so.
-ghost use Rattle.std.specs.Prelude.{◌≡◌, ◌⊎◌, ◌≤◌, ◌<◌, ◌∷◌, ℕ, [], true, false, Some, None, take, length, OnOk, OnErr, IsSomeAnd, IsErrOf};
+ghost use Rattle.std.specs.Prelude.{◌≡◌, ◌⊎◌, ◌≤◌, ◌<◌, ◌∷◌, ℕ, [], true, false, Some, None, take, drop, length, option_map, OnOk, OnErr, IfSome, IsSomeAnd, IsErrOf};
 ghost use Rattle.gd_world.specs.Memory.{is_due, one_more, LoadCause, StoreCause};
 ghost use Rattle.gd_world.specs.Shelf.{held, Puts, LoadWord, StoreWord};
 
-use crate::entries::{copy_held, first_of, put_first};
-use crate::{LoadFault, Shelf, StoreFault};
+use crate::entries::{copy_from, copy_held, first_of, put_first};
+use crate::{FileMark, LoadFault, Shelf, StoreFault};
 use gd_base::{Memory, Name2};
 use std::alloc::Global;
 
@@ -154,5 +154,21 @@ impl Shelf for MemShelf {
             return Err(StoreFault::Failed);
         }
         Ok(())
+    }
+
+    fn mark(&self, name: &str) -> Option<FileMark>
+        ensures { option_map (λ mark. mark.size) result ≡ option_map (λ bytes. length bytes) (held self.now.files.items name.now) }
+    {
+        let bytes = first_of(self.files.as_slice(), name.as_bytes())?;
+        Some(FileMark::in_memory(bytes.len()))
+    }
+
+    fn peek(&self, name: &str, from: usize, into: &mut [u8]) -> Option<usize>
+        ensures count { IfSome result (λ count. count ≤ length into.new) }
+        ensures bytes { IfSome result (λ count. IsSomeAnd (held self.now.files.items name.now) (λ bytes. take count into.new ≡ take (length into.new) (drop from bytes))) }
+        ensures missing { result ≡ None → held self.now.files.items name.now ≡ None }
+    {
+        let bytes = first_of(self.files.as_slice(), name.as_bytes())?;
+        Some(copy_from(bytes.as_slice(), from, into))
     }
 }

@@ -44,6 +44,23 @@ fn write_some<F: Write>(to: &mut F, piece: &[u8]) -> Option<usize>
     None
 }
 
+// Reads until `into` is full or nothing is left, and says how many bytes that gave. None is a fault.
+pub(crate) fn fill<F: Read>(from: &mut F, into: &mut [u8]) -> Option<usize>
+    ensures bound { IfSome result (λ count. count ≤ length into.new) }
+    ensures bytes { IfSome result (λ count. Consumes (F.remaining from.old) (F.remaining from.new) (take count into.new)) }
+    ensures end { IfSome result (λ count. count < length into.new → IsAtEnd (F.remaining from.new)) }
+{
+    let mut filled = 0;
+    while filled < into.len() {
+        match read_some(from, &mut into[filled..]) {
+            None => return None,
+            Some(0) => return Some(filled),
+            Some(count) => filled += count,
+        }
+    }
+    Some(filled)
+}
+
 // How many bytes the next read may take, so that at most one is read past the longest file.
 fn room_after(taken: usize, most: usize) -> usize
     requires taken { taken ≤ 134217728 }

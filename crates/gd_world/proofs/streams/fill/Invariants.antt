@@ -1,0 +1,10 @@
+-- What was read so far stands in front, and each turn adds a byte.
+use Rattle.std.proofs.Common.{◌≤◌, ◌-◌, length, take}
+use Rattle.std.specs.Io.KnownBytes.{Consumes}
+use Rattle.gd_world.proofs.streams.fill.Given as goal
+
+abbrev pub invariant-loop-filled : goal.invariant-loop-filled
+invariant-loop-filled g l = (l.filled ≤ length l.into) × Consumes (g.F.Read.remaining l.initial.from) (g.F.Read.remaining l.from) (take l.filled l.into)
+
+abbrev pub decreases-loop-filled : goal.decreases-loop-filled
+decreases-loop-filled g l = length l.into - l.filled
