@@ -1,7 +1,7 @@
 // Certificates of a small task: a valid one of each verdict, and one for each code.
 ghost use Rattle.std.specs.Prelude.{◌≡◌, pos, refl};
 ghost use Rattle.gd_search.specs.Toys.{ends, evidence_of, feasible_of, inside_all, toy, witness_of};
-ghost use Rattle.gd_search.specs.Toys as toys;
+ghost use Rattle.gd_search.specs.ToyLaws as laws;
 
 use crate::{CheckAnswer, check};
 use gd_cells::{Cell, Evidence, Task, Witness, split_cell};
@@ -25,7 +25,7 @@ impl Toy {
 }
 
 impl Task for Toy {
-    ghost questions = { λ t. toy t.shows t.depth (pos 1) };
+    ghost questions = { λ t. toy t.shows t.depth (pos 1) 3 };
 
     ghost feasible = { λ t. feasible_of t.shows };
 
@@ -90,25 +90,25 @@ impl Task for Toy {
         self.shows && 1 <= witness.at[0]
     }
 
-    ghost is_grid = { λ t. toys.toy-grid t.shows t.depth (pos 1) };
+    ghost is_grid = { λ t. laws.toy-grid t.shows t.depth (pos 1) 3 laws.three_are_few };
 
-    ghost roots_cover = { λ t. toys.toy-roots t.shows t.depth (pos 1) };
+    ghost roots_cover = { λ t. laws.toy-roots t.shows t.depth (pos 1) 3 };
 
-    ghost halves_cover = { λ t. toys.toy-halves t.shows t.depth (pos 1) };
+    ghost halves_cover = { λ t. laws.toy-halves t.shows t.depth (pos 1) 3 };
 
-    ghost first_refutes = { λ t. toys.toy-first t.shows t.depth (pos 1) };
+    ghost first_refutes = { λ t. laws.toy-first t.shows t.depth (pos 1) 3 };
 
-    ghost none_refutes = { λ t. toys.toy-none t.shows t.depth (pos 1) };
+    ghost none_refutes = { λ t. laws.toy-none t.shows t.depth (pos 1) 3 };
 
-    ghost first_is_short = { λ t. toys.toy-short t.shows t.depth (pos 1) };
+    ghost first_is_short = { λ t. laws.toy-short t.shows t.depth (pos 1) 3 laws.three_are_few };
 
-    ghost refuted_is_empty = { λ t. toys.toy-empty t.shows t.depth (pos 1) };
+    ghost refuted_is_empty = { λ t. laws.toy-empty t.shows t.depth (pos 1) 3 };
 
     ghost centre_in_range = { λ t c cell. refl };
 
-    ghost holds_is_feasible = { λ t. toys.toy-shown t.shows t.depth (pos 1) };
+    ghost holds_is_feasible = { λ t. laws.toy-shown t.shows t.depth (pos 1) 3 };
 
-    ghost centre_names_place = { λ t. toys.toy-places t.shows t.depth (pos 1) };
+    ghost centre_names_place = { λ t. laws.toy-places t.shows t.depth (pos 1) 3 laws.three_are_few };
 }
 
 // The lines of a tree from a letter a line: `s`, `r` or `o`.

@@ -1,4 +1,3 @@
-pub mod Boards
 pub mod Counted
 pub mod Forest
 mod KnownValues

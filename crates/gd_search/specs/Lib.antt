@@ -2,7 +2,7 @@ pub mod Lines
 pub mod Outcomes
 pub mod Rows
 pub mod Stops
-pub mod Team
+pub mod ToyLaws
 pub mod Toys
 pub mod Trees
 pub mod Verdict

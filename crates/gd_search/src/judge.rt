@@ -1,7 +1,6 @@
 // The search.
-ghost use Rattle.std.specs.Prelude.{◌≡◌, ◌≤◌, ◌<◌, ◌+◌, ◌*◌, ◌^◌, ◌≢◌, IfOk, IfSome, List, ℕ, None, find, length, map, option_map};
+ghost use Rattle.std.specs.Prelude.{◌≡◌, ◌≤◌, ◌<◌, ◌+◌, ◌*◌, ◌^◌, ◌≢◌, IfOk, List, ℕ, None, find, length, option_map};
 ghost use Rattle.std.specs.List.{All};
-ghost use Rattle.std.specs.Thread.{IsSync};
 ghost use Rattle.gd_cells.specs.Meaning.{IsCell};
 ghost use Rattle.gd_search.specs.Lines.{left_of, written_roots};
 ghost use Rattle.gd_search.specs.Outcomes.{AcceptsRightly, RejectsRightly, end_of};
@@ -10,18 +9,17 @@ ghost use Rattle.gd_search.specs.Trees.{leaves_of};
 ghost use Rattle.gd_search.specs.Verdict.{IsVerdict, end_with};
 ghost use Rattle.gd_cells.specs.declared.node.Node.{Node};
 
+use crate::halves::{bound_level, most_chunks};
 use crate::outcome::Outcome;
-use crate::row::{Row, bound_level, count_undecided, first_holding, half_rows, root_rows};
-use crate::team::{Asked, Team, help, helpers_for};
-use crate::tree::{Level, found_last, keep_level, write_tree};
+use crate::row::{Row, count_undecided, first_holding, half_rows, root_rows};
+use crate::tree::{Level, keep_level, write_tree};
 use gd_base::{Memory, Reason};
 use gd_cells::{
     Task, Witness, show_centre_in_range, show_centre_names_place, show_first_refutes, show_grid,
     show_halves_cover, show_holds_is_feasible, show_refuted_is_empty, show_roots_cover,
 };
 use std::alloc::Global;
-use std::marker::Brand;
-use std::thread::{Threads, join};
+use std::thread::Threads;
 
 // Why a search ends at a level.
 #[derive(Clone, Copy)]
@@ -54,7 +52,8 @@ fn first_witness<T: Task>(task: &T, rows: &[Row]) -> Option<Witness>
 // Whether the search ends at a level, by its four rules in their order.
 fn stop_at(holding: Option<Witness>, place: Place, finest: u32, budget: u32) -> Option<Stop>
     requires { place.spent + place.undecided < 2 ^ 32 }
-    ensures rules { (lines : List Node) (roots : ℕ) → option_map (end_of_stop place lines roots) result ≡ end_with holding lines place.level place.undecided place.spent roots finest budget }
+    ensures rules { (lines : List Node) (roots : ℕ) → option_map (end_of_stop place lines roots) result
+        ≡ end_with holding lines place.level place.undecided place.spent roots finest budget }
     ensures level { result ≡ None → place.level ≢ finest }
     ensures budget { result ≡ None → place.spent + place.undecided ≤ budget }
 {
@@ -81,8 +80,10 @@ fn finish(
     levels: Vec<Level>,
 ) -> Result<Outcome, Memory>
     requires few { roots + 2 * place.spent < 2 ^ 32 }
-    requires leaves { stop ≡ Stop.Reject → leaves_of (written_roots roots (length levels.items) (left_of levels.items)) ≡ place.spent + roots }
-    ensures { IfOk result (λ o. end_of o ≡ end_of_stop place (written_roots roots (length levels.items) (left_of levels.items)) roots stop) }
+    requires leaves { stop ≡ Stop.Reject
+        → leaves_of (written_roots roots (length levels.items) (left_of levels.items)) ≡ place.spent + roots }
+    ensures { IfOk result (λ o. end_of o
+        ≡ end_of_stop place (written_roots roots (length levels.items) (left_of levels.items)) roots stop) }
 {
     // each split gives two lines more
     let lines = roots + 2 * place.spent;
@@ -109,20 +110,19 @@ fn finish(
 }
 
 // Searches level after level, and keeps what was found in the cells of each.
-fn search_levels<J: Asked, R: Threads + Sync, T: Task>(
+fn search_levels<R: Threads + Sync, T: Task>(
     rt: &R,
     alloc: Global,
     task: &T,
-    team: &Team<J>,
     budget: u32,
 ) -> Result<Outcome, Memory>
-    requires same { T.questions task.now ≡ J.questions }
-    requires budget { budget ≤ 1000000 }
+    requires { budget ≤ 1000000 }
     ensures { IfOk result (λ o. IsVerdict (T.questions task.now) budget (end_of o)) }
 {
     show_grid(task);
     let roots = task.roots();
     let finest = task.floor_level();
+    let most = most_chunks(rt);
     let mut levels = Vec::new(alloc);
     let mut rows = root_rows(alloc, roots)?;
     let mut place = Place {
@@ -131,8 +131,7 @@ fn search_levels<J: Asked, R: Threads + Sync, T: Task>(
         spent: 0,
     };
     'levels: loop {
-        let above = found_last(&levels);
-        bound_level(rt, alloc, task, team, place.level, above, &mut rows);
+        bound_level(rt, task, place.level, most, &mut rows);
         keep_level(alloc, &mut levels, rows.as_slice())?;
         place.undecided = count_undecided(rows.as_slice()) as u32;
         let holding = first_witness(task, rows.as_slice());
@@ -146,89 +145,11 @@ fn search_levels<J: Asked, R: Threads + Sync, T: Task>(
     }
 }
 
-// Searches the levels, and then lets the helpers go.
-fn search_and_end<J: Asked, R: Threads + Sync, T: Task>(
-    rt: &R,
-    alloc: Global,
-    task: &T,
-    team: &Team<J>,
-    budget: u32,
-) -> Result<Outcome, Memory>
-    requires same { T.questions task.now ≡ J.questions }
-    requires budget { budget ≤ 1000000 }
-    ensures { IfOk result (λ o. IsVerdict (T.questions task.now) budget (end_of o)) }
-{
-    let outcome = search_levels(rt, alloc, task, team, budget);
-    team.end();
-    outcome
-}
-
-// Searches the levels with so many helpers, each in a thread of its own where one can be made.
-fn search_helped<J: Asked + Send + Sync, R: Threads + Sync, T: Task>(
-    rt: &R,
-    alloc: Global,
-    task: &T,
-    team: &Team<J>,
-    budget: u32,
-    helpers: usize,
-) -> Result<Outcome, Memory>
-    requires same { T.questions task.now ≡ J.questions }
-    requires budget { budget ≤ 1000000 }
-    ensures { IfOk result (λ o. IsVerdict (T.questions task.now) budget (end_of o)) }
-{
-    if helpers == 0 {
-        return search_and_end(rt, alloc, task, team, budget);
-    }
-    let others = helpers - 1;
-    let (_, outcome) = join(
-        rt,
-        || -> ()
-            requires { T.questions task.now ≡ J.questions }
-        { help(task, team) },
-        || -> Result<Outcome, Memory>
-            requires { IsSync R.row × (T.questions task.now ≡ J.questions) × (budget ≤ 1000000) }
-            ensures { IfOk result (λ o. IsVerdict (T.questions task.entry.now) budget (end_of o)) }
-        { search_helped(rt, alloc, task, team, budget, others) },
-    );
-    outcome
-}
-
-// Searches the levels in a team of so many helpers.
-fn search_in_team<J: Asked + Send + Sync, R: Threads + Sync, T: Task>(
-    rt: &R,
-    alloc: Global,
-    task: &T,
-    budget: u32,
-    helpers: usize,
-) -> Result<Outcome, Memory>
-    requires same { T.questions task.now ≡ J.questions }
-    requires budget { budget ≤ 1000000 }
-    ensures { IfOk result (λ o. IsVerdict (T.questions task.now) budget (end_of o)) }
-{
-    let (roots, boards) = if helpers == 0 {
-        (0, 0)
-    } else {
-        (task.roots(), task.floor_level() + 1)
-    };
-    let team = Team::<J>::new(alloc, roots, boards)?;
-    if helpers == 0 {
-        return search_and_end(rt, alloc, task, &team, budget);
-    }
-    // the system starts a first thread on this processor and leaves it there, so it is one with nothing to do
-    let (_, outcome) = join(
-        rt,
-        || -> () {},
-        || -> Result<Outcome, Memory>
-            requires { IsSync R.row × (T.questions task.now ≡ J.questions) × (budget ≤ 1000000) }
-            ensures { IfOk result (λ o. IsVerdict (T.questions task.entry.now) budget (end_of o)) }
-        { search_helped(rt, alloc, task, &team, budget, helpers) },
-    );
-    outcome
-}
-
 /// Searches the cells of a task, level after level, and splits at most `budget` cells.
 ///
-/// The outcome is the verdict, whatever number of threads run. An accept has the first centre that holds, so its assignment is feasible. Where it is a reject, no assignment of the task is feasible. The budget is at most 1,000,000, and the first level is always judged.
+/// The outcome is the verdict, whatever number of threads run. An accept has the first centre that holds, so its
+/// assignment is feasible. Where it is a reject, no assignment of the task is feasible. The budget is at most
+/// 1,000,000, and the first level is always judged.
 pub fn search<R: Threads + Sync, T: Task>(
     rt: &R,
     alloc: Global,
@@ -238,7 +159,8 @@ pub fn search<R: Threads + Sync, T: Task>(
     requires { budget ≤ 1000000 }
     ensures verdict { IfOk result (λ o. IsVerdict (T.questions task.now) budget (end_of o)) }
     ensures reject { IfOk result (λ o. RejectsRightly (T.feasible task.now) o) }
-    ensures accept { IfOk result (λ o. AcceptsRightly (T.questions task.now) (T.feasible task.now) (T.assignment task.now) o) }
+    ensures accept { IfOk result
+        (λ o. AcceptsRightly (T.questions task.now) (T.feasible task.now) (T.assignment task.now) o) }
 {
     show_grid(task);
     show_roots_cover(task);
@@ -248,7 +170,6 @@ pub fn search<R: Threads + Sync, T: Task>(
     show_centre_in_range(task);
     show_centre_names_place(task);
     show_holds_is_feasible(task);
-    let helpers = helpers_for(rt, task.points());
-    let outcome = search_in_team::<Brand, R, T>(rt, alloc, task, budget, helpers)?;
+    let outcome = search_levels(rt, alloc, task, budget)?;
     Ok(outcome)
 }

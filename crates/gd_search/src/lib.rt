@@ -1,10 +1,10 @@
 //! The search of a task by levels of cells.
 #![tactic(auto)]
 
+mod halves;
 mod judge;
 mod outcome;
 mod row;
-mod team;
 #[cfg(test)]
 mod tests;
 mod tree;

@@ -6,18 +6,9 @@ ghost use Rattle.gd_cells.specs.Halves.{whole_root};
 ghost use Rattle.gd_cells.specs.Meaning.{IsCell};
 ghost use Rattle.gd_search.specs.Rows.{fresh, is_open, judged, rows_below};
 
-use crate::team::{Asked, Team, bound_together};
 use gd_base::Memory;
 use gd_cells::{Cell, Evidence, Task, root_cell, show_centre_in_range};
 use std::alloc::Global;
-use std::thread::{Threads, for_each_chunk_mut};
-
-/// A part of a level that gets a thread has so many looks of a cell at a point, 0.3 ms of work or more. A thread starts in some 0.02 ms
-/// where a processor is idle, and waits for its turn where all are busy.
-const PART: usize = 200_000;
-
-/// A level has at most so many parts: some for each processor, as one may be slower or have more to do.
-const MOST_PARTS: usize = 16;
 
 /// A cell, what refutes it first, and whether its centre holds. Where something refutes it, its centre isn't tried.
 #[derive(Clone, Copy)]
@@ -27,8 +18,8 @@ pub struct Row {
     pub holds: bool,
 }
 
-/// The row of a cell before its bounding.
-pub fn fresh_row(cell: Cell) -> Row
+// The row of a cell before its bounding.
+fn fresh_row(cell: Cell) -> Row
     ensures { result ≡ fresh cell }
 {
     Row {
@@ -50,8 +41,8 @@ pub fn root_rows(alloc: Global, roots: u32) -> Result<Vec<Row>, Memory>
     Ok(rows)
 }
 
-/// Bounds the cell of one row, and tries its centre where it stays undecided.
-pub fn bound_row<T: Task>(task: &T, row: &mut Row)
+// Bounds the cell of one row, and tries its centre where it stays undecided.
+fn bound_row<T: Task>(task: &T, row: &mut Row)
     requires { IsCell (T.questions task.now) row.old.cell }
     ensures { row.new ≡ judged (T.questions task.now) row.old }
 {
@@ -60,66 +51,14 @@ pub fn bound_row<T: Task>(task: &T, row: &mut Row)
     row.holds = row.found.is_none() && task.holds(&task.centre(&row.cell));
 }
 
-// Bounds the cells of the rows, in order.
+/// Bounds the cells of the rows, in order.
 #[tactic(auto, using(crate::proofs::Levels::cell_of_row))]
-fn bound_rows<T: Task>(task: &T, rows: &mut [Row])
+pub fn bound_rows<T: Task>(task: &T, rows: &mut [Row])
     requires { All (λ row. IsCell (T.questions task.now) row.cell) rows.old }
     ensures { rows.new ≡ map (judged (T.questions task.now)) rows.old }
 {
     for row in rows.iter_mut() {
         bound_row(task, row);
-    }
-}
-
-// How many parts a level of so many cells and points a cell is worth: each is long enough to pay for its thread.
-fn parts_of(cells: usize, points: usize) -> usize
-    ensures { 1 ≤ result }
-{
-    let looks = cells.saturating_mul(points);
-    (looks / PART).clamp(1, MOST_PARTS)
-}
-
-// The same in so many parts side by side, where threads can be made.
-fn bound_parts<R: Threads + Sync, T: Task>(rt: &R, task: &T, rows: &mut [Row], parts: usize)
-    requires cells { All (λ row. IsCell (T.questions task.now) row.cell) rows.old }
-    requires parts { 1 ≤ parts }
-    ensures { rows.new ≡ map (judged (T.questions task.now)) rows.old }
-{
-    if parts == 1 || rows.is_empty() {
-        bound_rows(task, rows);
-        return;
-    }
-    let size = rows.len().div_ceil(parts);
-    for_each_chunk_mut(
-        rt,
-        rows,
-        size,
-        &|_, part: &mut [Row]| -> ()
-            requires { All (λ row. IsCell (T.questions task.now) row.cell) part.now }
-        { bound_rows(task, part) },
-    );
-}
-
-/// Bounds the cells of a level, from what was found in the level above. Where there is enough to do, several threads share
-/// them: the helpers of the team where the level is narrow, and else threads that this level starts.
-pub fn bound_level<J: Asked, R: Threads + Sync, T: Task>(
-    rt: &R,
-    alloc: Global,
-    task: &T,
-    team: &Team<J>,
-    level: u32,
-    above: &[Option<Evidence>],
-    rows: &mut Vec<Row>,
-)
-    requires same { T.questions task.now ≡ J.questions }
-    requires cells { All (λ row. IsCell (T.questions task.now) row.cell) rows.old.items }
-    ensures { rows.new.items ≡ map (judged (T.questions task.now)) rows.old.items }
-{
-    let points = task.points();
-    let rows = rows.as_mut_slice();
-    if !bound_together(alloc, task, team, level as usize, above, rows) {
-        let parts = parts_of(rows.len(), points);
-        bound_parts(rt, task, rows, parts);
     }
 }
 

@@ -1,7 +1,7 @@
-// Outcomes of two small tasks.
-ghost use Rattle.std.specs.Prelude.{◌≡◌, ◌<◌, refl, true, cond};
-ghost use Rattle.gd_search.specs.Toys.{evidence_of, feasible_of, inside_all, meeting, never, toy, witness_of, ends};
-ghost use Rattle.gd_search.specs.Toys as toys;
+// Outcomes of a small task, and the threads of its levels.
+ghost use Rattle.std.specs.Prelude.{◌≡◌, ◌≤◌, refl};
+ghost use Rattle.gd_search.specs.Toys.{ends, evidence_of, feasible_of, inside_all, toy, witness_of};
+ghost use Rattle.gd_search.specs.ToyLaws as laws;
 
 use crate::{Outcome, leaves, search};
 use gd_base::Reason;
@@ -9,7 +9,6 @@ use gd_cells::{Cell, Evidence, Node, Task, Witness, split_cell};
 use std::alloc::{AllocError, Global};
 use std::sync::atomic::{AtomicBool, Ordering};
 use std::test::Fail;
-use std::thread::available_parallelism;
 
 fn evidence(cell: &Cell) -> Evidence
     ensures { result ≡ evidence_of cell.now }
@@ -32,15 +31,55 @@ fn witness(cell: &Cell) -> Witness
     }
 }
 
-// Where it shows, every assignment is feasible, and centres hold from the level `least` on. Else none is, and cells are refuted from `depth` on, and those of the first root from level 1 on.
+// Two cells of a level. Each sets its flag, and looks whether the other's is set while it is bounded.
 #[derive(Drop)]
-struct Toy {
+struct Meeting {
+    cells: [Cell; 2],
+    here: [AtomicBool; 2],
+    met: [AtomicBool; 2],
+}
+
+impl Meeting {
+    fn new(cells: [Cell; 2]) -> Meeting {
+        Meeting {
+            cells,
+            here: [AtomicBool::new(false), AtomicBool::new(false)],
+            met: [AtomicBool::new(false), AtomicBool::new(false)],
+        }
+    }
+
+    fn meet(&self, cell: &Cell) {
+        let (own, other) = if *cell == self.cells[0] {
+            (0, 1)
+        } else if *cell == self.cells[1] {
+            (1, 0)
+        } else {
+            return;
+        };
+        self.here[own].store(true, Ordering::SeqCst);
+        for _ in 0..100_000_000 {
+            if self.here[other].load(Ordering::SeqCst) {
+                self.met[own].store(true, Ordering::SeqCst);
+                break;
+            }
+        }
+    }
+}
+
+// Where it shows, every assignment is feasible, and centres hold from the level `least` on. Else none is, and cells are
+// refuted from `depth` on, and those of the first root from level 1 on.
+#[derive(Drop)]
+struct Toy<'a> {
     shows: bool,
     depth: u32,
     least: i64,
+    finest: u32,
+    points: usize,
+    meeting: Option<&'a Meeting>,
+    ghost few: { finest ≤ 60 },
 }
 
-impl Toy {
+impl Toy<'_> {
     fn ends(&self, cell: &Cell) -> bool
         ensures { result ≡ ends self.now.depth cell.now }
     {
@@ -48,8 +87,8 @@ impl Toy {
     }
 }
 
-impl Task for Toy {
-    ghost questions = { λ t. toy t.shows t.depth t.least };
+impl Task for Toy<'_> {
+    ghost questions = { λ t. toy t.shows t.depth t.least t.finest };
 
     ghost feasible = { λ t. feasible_of t.shows };
 
@@ -70,11 +109,11 @@ impl Task for Toy {
     }
 
     fn floor_level(&self) -> u32 {
-        3
+        self.finest
     }
 
     fn points(&self) -> usize {
-        1
+        self.points
     }
 
     fn split(&self, cell: &Cell) -> (Cell, Cell) {
@@ -82,6 +121,9 @@ impl Task for Toy {
     }
 
     fn refutes(&self, cell: &Cell) -> Option<Evidence> {
+        if let Some(meeting) = self.meeting {
+            meeting.meet(cell);
+        }
         if !self.shows && self.ends(cell) {
             Some(evidence(cell))
         } else {
@@ -105,214 +147,25 @@ impl Task for Toy {
         self.shows && self.least <= witness.at[0]
     }
 
-    ghost is_grid = { λ t. toys.toy-grid t.shows t.depth t.least };
+    ghost is_grid = { λ t. laws.toy-grid t.shows t.depth t.least t.finest t.few };
 
-    ghost roots_cover = { λ t. toys.toy-roots t.shows t.depth t.least };
+    ghost roots_cover = { λ t. laws.toy-roots t.shows t.depth t.least t.finest };
 
-    ghost halves_cover = { λ t. toys.toy-halves t.shows t.depth t.least };
+    ghost halves_cover = { λ t. laws.toy-halves t.shows t.depth t.least t.finest };
 
-    ghost first_refutes = { λ t. toys.toy-first t.shows t.depth t.least };
+    ghost first_refutes = { λ t. laws.toy-first t.shows t.depth t.least t.finest };
 
-    ghost none_refutes = { λ t. toys.toy-none t.shows t.depth t.least };
+    ghost none_refutes = { λ t. laws.toy-none t.shows t.depth t.least t.finest };
 
-    ghost first_is_short = { λ t. toys.toy-short t.shows t.depth t.least };
+    ghost first_is_short = { λ t. laws.toy-short t.shows t.depth t.least t.finest t.few };
 
-    ghost refuted_is_empty = { λ t. toys.toy-empty t.shows t.depth t.least };
-
-    ghost centre_in_range = { λ t c cell. refl };
-
-    ghost holds_is_feasible = { λ t. toys.toy-shown t.shows t.depth t.least };
-
-    ghost centre_names_place = { λ t. toys.toy-places t.shows t.depth t.least };
-}
-
-// Each root sets its flag, and looks whether the other's is set while it is bounded.
-#[derive(Drop)]
-struct Meeting {
-    here: [AtomicBool; 2],
-    met: [AtomicBool; 2],
-}
-
-impl Task for Meeting {
-    ghost questions = { λ t. meeting };
-
-    ghost feasible = { λ t. never };
-
-    ghost inside = { λ t. inside_all };
-
-    ghost assignment = { λ t w. w.at };
-
-    fn roots(&self) -> u32 {
-        2
-    }
-
-    fn dims(&self) -> u32 {
-        1
-    }
-
-    fn numbers(&self) -> u32 {
-        1
-    }
-
-    fn floor_level(&self) -> u32 {
-        1
-    }
-
-    // so many that two cells are worth threads
-    fn points(&self) -> usize {
-        1_000_000_000
-    }
-
-    fn split(&self, cell: &Cell) -> (Cell, Cell) {
-        split_cell(cell, 0)
-    }
-
-    fn refutes(&self, cell: &Cell) -> Option<Evidence> {
-        let (own, other) = if cell.root == 1 { (0, 1) } else { (1, 0) };
-        self.here[own].store(true, Ordering::SeqCst);
-        for _ in 0..100_000_000 {
-            if self.here[other].load(Ordering::SeqCst) {
-                self.met[own].store(true, Ordering::SeqCst);
-                break;
-            }
-        }
-        Some(evidence(cell))
-    }
-
-    fn refutes_at(&self, _cell: &Cell, _evidence: &Evidence) -> bool {
-        true
-    }
-
-    fn centre(&self, cell: &Cell) -> Witness {
-        witness(cell)
-    }
-
-    fn in_range(&self, _witness: &Witness) -> bool {
-        true
-    }
-
-    fn holds(&self, _witness: &Witness) -> bool {
-        false
-    }
-
-    ghost is_grid = { λ t. toys.meeting-grid };
-
-    ghost roots_cover = { λ t. toys.meeting-roots };
-
-    ghost halves_cover = { λ t. toys.meeting-halves };
-
-    ghost first_refutes = { λ t c e cell is. refl };
-
-    ghost none_refutes = { λ t. toys.meeting-none };
-
-    ghost first_is_short = { λ t. toys.meeting-short };
-
-    ghost refuted_is_empty = { λ t c e a cell is lies can. absurd can };
+    ghost refuted_is_empty = { λ t. laws.toy-empty t.shows t.depth t.least t.finest };
 
     ghost centre_in_range = { λ t c cell. refl };
 
-    ghost holds_is_feasible = { λ t. toys.meeting-shown };
+    ghost holds_is_feasible = { λ t. laws.toy-shown t.shows t.depth t.least t.finest };
 
-    ghost centre_names_place = { λ t. toys.meeting-places };
-}
-
-// A toy whose second root looks, while it is bounded, whether a half of a root is.
-#[derive(Drop)]
-struct Waiting {
-    toy: Toy,
-    half_came: AtomicBool,
-    root_saw_it: AtomicBool,
-}
-
-impl Waiting {
-    fn look(&self, cell: &Cell) {
-        if 0 < cell.level {
-            self.half_came.store(true, Ordering::SeqCst);
-        } else if cell.root == 2 {
-            for _ in 0..100_000_000 {
-                if self.half_came.load(Ordering::SeqCst) {
-                    self.root_saw_it.store(true, Ordering::SeqCst);
-                    break;
-                }
-            }
-        }
-    }
-}
-
-impl Task for Waiting {
-    ghost questions = { λ t. toy t.toy.shows t.toy.depth t.toy.least };
-
-    ghost feasible = { λ t. feasible_of t.toy.shows };
-
-    ghost inside = { λ t. inside_all };
-
-    ghost assignment = { λ t w. w.at };
-
-    fn roots(&self) -> u32 {
-        self.toy.roots()
-    }
-
-    fn dims(&self) -> u32 {
-        self.toy.dims()
-    }
-
-    fn numbers(&self) -> u32 {
-        self.toy.numbers()
-    }
-
-    fn floor_level(&self) -> u32 {
-        self.toy.floor_level()
-    }
-
-    // so many that a search has helpers
-    fn points(&self) -> usize {
-        1_000_000_000
-    }
-
-    fn split(&self, cell: &Cell) -> (Cell, Cell) {
-        self.toy.split(cell)
-    }
-
-    fn refutes(&self, cell: &Cell) -> Option<Evidence> {
-        self.look(cell);
-        self.toy.refutes(cell)
-    }
-
-    fn refutes_at(&self, cell: &Cell, evidence: &Evidence) -> bool {
-        self.toy.refutes_at(cell, evidence)
-    }
-
-    fn centre(&self, cell: &Cell) -> Witness {
-        self.toy.centre(cell)
-    }
-
-    fn in_range(&self, witness: &Witness) -> bool {
-        self.toy.in_range(witness)
-    }
-
-    fn holds(&self, witness: &Witness) -> bool {
-        self.toy.holds(witness)
-    }
-
-    ghost is_grid = { λ t. toys.toy-grid t.toy.shows t.toy.depth t.toy.least };
-
-    ghost roots_cover = { λ t. toys.toy-roots t.toy.shows t.toy.depth t.toy.least };
-
-    ghost halves_cover = { λ t. toys.toy-halves t.toy.shows t.toy.depth t.toy.least };
-
-    ghost first_refutes = { λ t. toys.toy-first t.toy.shows t.toy.depth t.toy.least };
-
-    ghost none_refutes = { λ t. toys.toy-none t.toy.shows t.toy.depth t.toy.least };
-
-    ghost first_is_short = { λ t. toys.toy-short t.toy.shows t.toy.depth t.toy.least };
-
-    ghost refuted_is_empty = { λ t. toys.toy-empty t.toy.shows t.toy.depth t.toy.least };
-
-    ghost centre_in_range = { λ t c cell. refl };
-
-    ghost holds_is_feasible = { λ t. toys.toy-shown t.toy.shows t.toy.depth t.toy.least };
-
-    ghost centre_names_place = { λ t. toys.toy-places t.toy.shows t.toy.depth t.toy.least };
+    ghost centre_names_place = { λ t. laws.toy-places t.shows t.depth t.least t.finest t.few };
 }
 
 // A letter a line: `s`, `r` or `o`.
@@ -377,6 +230,9 @@ fn outcomes(rt: HostRuntime) -> Result<(), Fail> {
             shows,
             depth: number,
             least: i64::from(number),
+            finest: 3,
+            points: 1,
+            meeting: None,
         };
         let outcome = search(&rt, alloc, &toy, budget)?;
         let got = told(alloc, &outcome)?;
@@ -385,45 +241,49 @@ fn outcomes(rt: HostRuntime) -> Result<(), Fail> {
     Ok(())
 }
 
-#[test]
-fn halves_meet(rt: HostRuntime) -> Result<(), Fail> {
-    let task = Meeting {
-        here: [AtomicBool::new(false), AtomicBool::new(false)],
-        met: [AtomicBool::new(false), AtomicBool::new(false)],
-    };
-    let outcome = search(&rt, rt.alloc(), &task, 1)?;
-    assert!(rt; matches!(outcome, Outcome::Reject { .. }));
-    assert!(rt;
-        task.met[0].load(Ordering::SeqCst),
-        "the first root saw the second"
-    );
-    assert!(rt;
-        task.met[1].load(Ordering::SeqCst),
-        "the second root saw the first"
-    );
-    Ok(())
+// The cell of a root and an index at a level.
+fn cell(root: u32, level: u32, first: u64) -> Cell {
+    let mut index = [0; 12];
+    index[0] = first;
+    Cell { root, level, index }
 }
 
 #[test]
-fn halves_come_early(rt: HostRuntime) -> Result<(), Fail> {
-    let toy = Toy {
-        shows: false,
-        depth: 1,
-        least: 0,
-    };
-    let task = Waiting {
-        toy,
-        half_came: AtomicBool::new(false),
-        root_saw_it: AtomicBool::new(false),
-    };
-    let outcome = search(&rt, rt.alloc(), &task, 100)?;
-    let told = told(rt.alloc(), &outcome)?;
-    assert_eq!(rt; told.as_str(), "reject 4 srrsrr");
-    // one processor has no helpers
-    let processors = available_parallelism(&rt)?;
-    assert!(rt;
-        processors.get() == 1 || task.root_saw_it.load(Ordering::SeqCst),
-        "the second root saw a half of the first"
-    );
+fn halves_meet(rt: HostRuntime) -> Result<(), Fail> {
+    let cases = [
+        (
+            "the roots, of one point",
+            0,
+            1,
+            cell(1, 0, 0),
+            cell(2, 0, 0),
+        ),
+        (
+            "256 cells, of 4,000 points",
+            8,
+            4_000,
+            cell(2, 8, 0),
+            cell(2, 8, 255),
+        ),
+    ];
+    for (name, depth, points, first, last) in cases {
+        let meeting = Meeting::new([first, last]);
+        let toy = Toy {
+            shows: false,
+            depth,
+            least: 0,
+            finest: 8,
+            points,
+            meeting: Some(&meeting),
+        };
+        let outcome = search(&rt, rt.alloc(), &toy, 1_000)?;
+        assert!(rt; matches!(outcome, Outcome::Reject { .. }), "{name}");
+        for met in &meeting.met {
+            assert!(rt;
+                met.load(Ordering::SeqCst),
+                "{name}: each cell saw the other"
+            );
+        }
+    }
     Ok(())
 }

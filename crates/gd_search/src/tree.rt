@@ -30,7 +30,8 @@ fn take_next(level: &mut Level) -> Option<Option<Evidence>>
 
 // Writes the lines of the next cell of the first level, and of the cells below it.
 fn write_cell(levels: &mut [Level], lines: &mut Vec<Node>) -> Result<(), Memory>
-    ensures lines { OnOk result (lines.new.items ≡ lines.old.items ++ (written (length levels.old) (left_of levels.old)).lines) }
+    ensures lines { OnOk result
+        (lines.new.items ≡ lines.old.items ++ (written (length levels.old) (left_of levels.old)).lines) }
     ensures rest { OnOk result (left_of levels.new ≡ (written (length levels.old) (left_of levels.old)).rest) }
 {
     let Some((level, below)) = levels.split_first_mut() else {
@@ -59,17 +60,10 @@ fn found_in(alloc: Global, rows: &[Row]) -> Result<Vec<Option<Evidence>>, AllocE
     rows.iter().map(|row| row.found).collect(alloc)
 }
 
-/// What was found in the cells of the last level that is kept. Nothing where none is.
-pub fn found_last(levels: &[Level]) -> &[Option<Evidence>] {
-    match levels.last() {
-        Some(level) => level.found.as_slice(),
-        None => &[],
-    }
-}
-
 /// Keeps what was found in the cells of the next level.
 pub fn keep_level(alloc: Global, levels: &mut Vec<Level>, rows: &[Row]) -> Result<(), Memory>
-    ensures kept { OnOk result (left_of levels.new.items ≡ left_of levels.old.items ++ map (λ row. row.found) rows.now ∷ []) }
+    ensures kept { OnOk result
+        (left_of levels.new.items ≡ left_of levels.old.items ++ map (λ row. row.found) rows.now ∷ []) }
     ensures count { OnOk result (length levels.new.items ≡ length levels.old.items + 1) }
 {
     let found = found_in(alloc, rows)?;
@@ -80,7 +74,8 @@ pub fn keep_level(alloc: Global, levels: &mut Vec<Level>, rows: &[Row]) -> Resul
 // Writes the lines of so many cells of the first level, with those below them.
 #[tactic(auto, using(crate::proofs::Writing::roots_step, crate::proofs::Writing::roots_end))]
 fn write_roots(levels: &mut [Level], roots: u32, lines: &mut Vec<Node>) -> Result<(), Memory>
-    ensures { OnOk result (lines.new.items ≡ lines.old.items ++ written_roots roots (length levels.old) (left_of levels.old)) }
+    ensures { OnOk result
+        (lines.new.items ≡ lines.old.items ++ written_roots roots (length levels.old) (left_of levels.old)) }
 {
     for _root in 0..roots {
         write_cell(levels, lines)?;

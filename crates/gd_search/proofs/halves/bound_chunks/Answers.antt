@@ -2,7 +2,7 @@ use Rattle.std.proofs.Common.{arith, map}
 use Rattle.std.proofs.lemmas.Grind.{common_steps}
 use Rattle.std.proofs.lemmas.List.{same_lists}
 use Rattle.gd_search.specs.Rows.{judged}
-use Rattle.gd_search.proofs.row.bound_parts.Goals as goal
+use Rattle.gd_search.proofs.halves.bound_chunks.Goals as goal
 
 pub returns : goal.returns
 returns g c =
