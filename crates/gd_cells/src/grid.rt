@@ -2,7 +2,7 @@
 ghost use Rattle.std.specs.Prelude.{◌≡◌, ◌<◌, ◌^◌, get_or};
 ghost use Rattle.gd_cells.specs.Halves.{half, whole_root};
 
-use crate::cell::Cell;
+use crate::cell::{Cell, MOST_DIMS};
 
 /// A whole root, by its number from 1.
 pub fn root_cell(root: u32) -> Cell
@@ -11,14 +11,14 @@ pub fn root_cell(root: u32) -> Cell
     Cell {
         root,
         level: 0,
-        index: [0; 12],
+        index: [0; MOST_DIMS],
     }
 }
 
 /// The half of a cell on one side of a coordinate, numbered from 0: the lower side is 0, the upper side is 1.
 #[tactic(auto, unfolding(crate::specs::Halves::half))]
 fn half_cell(cell: &Cell, coordinate: usize, side: u64) -> Cell
-    requires coordinate { coordinate < 12 }
+    requires coordinate { coordinate < MOST_DIMS }
     requires side { side < 2 }
     requires level { cell.now.level < 1000 }
     requires index { get_or cell.now.index coordinate 0 < 2 ^ 60 }
@@ -36,7 +36,7 @@ fn half_cell(cell: &Cell, coordinate: usize, side: u64) -> Cell
 /// Both halves of a cell along a coordinate, numbered from 0: the lower one first.
 /// `gd_cells::proofs::Cells::index_below` shows the last condition for the cells of a grid.
 pub fn split_cell(cell: &Cell, coordinate: usize) -> (Cell, Cell)
-    requires coordinate { coordinate < 12 }
+    requires coordinate { coordinate < MOST_DIMS }
     requires level { cell.now.level < 1000 }
     requires index { get_or cell.now.index coordinate 0 < 2 ^ 60 }
     ensures { result ≡ (half coordinate 0 cell.now, half coordinate 1 cell.now) }

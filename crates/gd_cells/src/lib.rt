@@ -6,13 +6,11 @@ mod grid;
 mod laws;
 mod node;
 mod task;
+mod witness;
 
-pub use cell::{Cell, Evidence, Witness};
+pub use cell::{Cell, Evidence, MOST_DIMS, Witness};
 pub use grid::{root_cell, split_cell};
-pub use laws::{
-    show_centre_in_range, show_centre_names_place, show_first_is_short, show_first_refutes,
-    show_grid, show_halves_cover, show_holds_is_feasible, show_none_refutes, show_refuted_is_empty,
-    show_roots_cover,
-};
+pub use laws::show_laws;
 pub use node::Node;
 pub use task::Task;
+pub use witness::{witness_of, zeros_behind};

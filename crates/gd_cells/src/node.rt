@@ -11,7 +11,7 @@ pub enum Node {
     Split,
     /// This evidence refutes the cell.
     Refuted(Evidence),
-    /// The cell is undecided at the last level of the tree.
+    /// Left undecided: nothing refutes the cell, and it lies at the level to which the tree goes.
     Left,
 }
 
