@@ -3,15 +3,15 @@ use Rattle.std.proofs.Common.{arith, ◌≡◌, refl, ap, ◌∙◌, ℕ, zero, 
 use Rattle.std.proofs.lemmas.List.{length-append}
 use Rattle.std.proofs.lemmas.List.Elements.{filter-append}
 use Rattle.std.specs.List.{flat_map}
-use Rattle.gd_cells.specs.Grid.{count_from}
+use Rattle.gd_cells.specs.Grid.{cell_of, count_from}
 use Rattle.gd_cells.specs.Laws.{IsGrid}
-use Rattle.gd_cells.specs.Meaning.{Questions, cell_of}
+use Rattle.gd_cells.specs.Meaning.{Questions}
 use Rattle.gd_cells.specs.Nodes.{is_refuted}
 use Rattle.gd_cells.specs.declared.cell.Cell.{Cell}
-use Rattle.gd_search.proofs.Forest.{candidates_by_roots, cells_below}
-use Rattle.gd_search.proofs.Levels.{is_left, undecided_counted}
-use Rattle.gd_search.specs.Trees.{last_line, leaves_of, tree, tree_below, with_halves}
-use Rattle.gd_search.specs.Verdict.{spent, undecided}
+use Rattle.gd_verdict.proofs.Below.{candidates_by_roots, cells_below}
+use Rattle.gd_verdict.proofs.Levels.{is_left, undecided_counted}
+use Rattle.gd_verdict.specs.Trees.{last_line, leaves_of, tree, tree_below, with_halves}
+use Rattle.gd_verdict.specs.Verdict.{spent, undecided}
 use Rattle.gd_cells.specs.declared.node.Node.{Node}
 
 -- ---- sums of the first so many numbers of a row
@@ -52,16 +52,16 @@ left_below q r l p j = left_in q (cells_below q j r l p)
 counted_below : (q : Questions) (depth r l p : ℕ) → leaves_of (tree_below q depth r l p) + left_below q r l p depth ≡ total (left_below q r l p) depth + 1
 unfolding left_below left_in
 counted_below q zero r l p =
-    elim (q.first (cell_of q r l p)) as (λ v. leaves_of (last_line v ∷ []) + length (cond (is_none v) (cell_of q r l p ∷ []) []) ≡ 0 + 1) [ Some e ↦ refl | None ↦ refl ]
+    elim (q.tests.first (cell_of q.grid r l p)) as (λ v. leaves_of (last_line v ∷ []) + length (cond (is_none v) (cell_of q.grid r l p ∷ []) []) ≡ 0 + 1) [ Some e ↦ refl | None ↦ refl ]
 counted_below q (suc depth) r l p =
     let lower : ℕ → List Cell = λ j. cells_below q j r (suc l) (2 * p) in
     let upper : ℕ → List Cell = λ j. cells_below q j r (suc l) (2 * p + 1) in
     let lower_lines : List Node = tree_below q depth r (suc l) (2 * p) in
     let upper_lines : List Node = tree_below q depth r (suc l) (2 * p + 1) in
     let f : total (left_below q r l p) (suc depth) ≡ left_below q r l p 0 + total (λ j. left_below q r l p (suc j)) depth = total-first (left_below q r l p) depth in
-    let b : leaves_of (with_halves (q.first (cell_of q r l p)) (lower_lines ++ upper_lines)) + left_in q (cond (is_left q (cell_of q r l p)) (lower depth ++ upper depth) [])
-    ≡ length (cond (is_left q (cell_of q r l p)) (cell_of q r l p ∷ []) []) + total (λ j. left_in q (cond (is_left q (cell_of q r l p)) (lower j ++ upper j) [])) depth + 1 =
-    elim (q.first (cell_of q r l p)) as (λ v. leaves_of (with_halves v (lower_lines ++ upper_lines)) + left_in q (cond (is_none v) (lower depth ++ upper depth) []) ≡ length (cond (is_none v) (cell_of q r l p ∷ []) []) + total (λ j. left_in q (cond (is_none v) (lower j ++ upper j) [])) depth + 1) [
+    let b : leaves_of (with_halves (q.tests.first (cell_of q.grid r l p)) (lower_lines ++ upper_lines)) + left_in q (cond (is_left q (cell_of q.grid r l p)) (lower depth ++ upper depth) [])
+    ≡ length (cond (is_left q (cell_of q.grid r l p)) (cell_of q.grid r l p ∷ []) []) + total (λ j. left_in q (cond (is_left q (cell_of q.grid r l p)) (lower j ++ upper j) [])) depth + 1 =
+    elim (q.tests.first (cell_of q.grid r l p)) as (λ v. leaves_of (with_halves v (lower_lines ++ upper_lines)) + left_in q (cond (is_none v) (lower depth ++ upper depth) []) ≡ length (cond (is_none v) (cell_of q.grid r l p ∷ []) []) + total (λ j. left_in q (cond (is_none v) (lower j ++ upper j) [])) depth + 1) [
       | Some e ↦ omega (arith, total-none depth)
       | None ↦ omega (
         arith,
@@ -99,16 +99,16 @@ counted_roots q level a (suc n) =
     )
 
 -- ---- the undecided cells
-pub undecided_under : (q : Questions) → IsGrid q → (j : ℕ) → j ≤ q.finest → length (undecided q j) ≡ left_under q 1 q.roots j
+pub undecided_under : (q : Questions) → IsGrid q.grid → (j : ℕ) → j ≤ q.grid.finest → length (undecided q j) ≡ left_under q 1 q.grid.roots j
 unfolding left_under left_in
 undecided_under q grid j low = undecided_counted q grid j low ∙ ap (λ cs. length (filter (is_left q) cs)) (candidates_by_roots q grid j low)
 
-pub spent_under : (q : Questions) → IsGrid q → (l : ℕ) → l ≤ suc q.finest → spent q l ≡ total (left_under q 1 q.roots) l
+pub spent_under : (q : Questions) → IsGrid q.grid → (l : ℕ) → l ≤ suc q.grid.finest → spent q l ≡ total (left_under q 1 q.grid.roots) l
 spent_under q grid zero low = refl
 spent_under q grid (suc l) low = omega (arith, spent_under q grid l (omega arith), undecided_under q grid l (omega arith))
 
 -- the refuted and the undecided cells of a tree are one more a root than the cells that were split
-pub leaves_counted : (q : Questions) → IsGrid q → (level : ℕ) → level ≤ q.finest → leaves_of (tree q level) + length (undecided q level) ≡ spent q level + q.roots
+pub leaves_counted : (q : Questions) → IsGrid q.grid → (level : ℕ) → level ≤ q.grid.finest → leaves_of (tree q level) + length (undecided q level) ≡ spent q level + q.grid.roots
 unfolding tree
 leaves_counted q grid level low =
-    omega (arith, counted_roots q level 1 q.roots, undecided_under q grid level low, spent_under q grid level (omega arith))
+    omega (arith, counted_roots q level 1 q.grid.roots, undecided_under q grid level low, spent_under q grid level (omega arith))
