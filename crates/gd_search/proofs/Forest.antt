@@ -1,17 +1,15 @@
 -- What was found in the cells of each level spells the tree.
-use Rattle.std.proofs.Common.{arith, ◌≡◌, refl, sym, ap, ◌∙◌, ℕ, zero, suc, ◌+◌, ◌*◌, ◌<◌, ◌≤◌, Some, None, is_none, cond, true, false, List, [], ◌∷◌, ◌++◌, length, map, replicate, append_assoc}
-use Rattle.std.proofs.lemmas.Grind.{flat_map-append}
+use Rattle.std.proofs.Common.{arith, ◌≡◌, refl, sym, ap, ◌∙◌, ℕ, zero, suc, ◌+◌, ◌*◌, ◌≤◌, Some, None, is_none, cond, List, [], ◌∷◌, ◌++◌, length, map, replicate, append_assoc}
 use Rattle.std.proofs.lemmas.List.{map-append}
 use Rattle.std.specs.List.{flat_map}
-use Rattle.gd_cells.proofs.Cells.{halves_at, root_at}
-use Rattle.gd_cells.specs.Grid.{count_from}
-use Rattle.gd_cells.specs.Halves.{halves, whole_root}
+use Rattle.gd_cells.specs.Grid.{cell_of, count_from}
 use Rattle.gd_cells.specs.Laws.{IsGrid}
-use Rattle.gd_cells.specs.Meaning.{Questions, cell_of}
+use Rattle.gd_cells.specs.Meaning.{Questions}
 use Rattle.gd_cells.specs.declared.cell.Cell.{Cell}
-use Rattle.gd_search.proofs.Levels.{candidates, halves_left, is_left}
+use Rattle.gd_verdict.proofs.Below.{candidates_by_roots, cells_below}
+use Rattle.gd_verdict.proofs.Levels.{candidates}
 use Rattle.gd_search.specs.Lines.{Found, Written, written, written_roots}
-use Rattle.gd_search.specs.Trees.{last_line, tree, tree_below, with_halves}
+use Rattle.gd_verdict.specs.Trees.{last_line, tree, tree_below, with_halves}
 use Rattle.gd_cells.specs.declared.node.Node.{Node}
 use Rattle.gd_cells.specs.declared.node.Node.TheVariants.{Refuted}
 
@@ -62,18 +60,14 @@ none_each X a zero = refl
 none_each X a (suc n) = ap (λ xss. [] ∷ xss) (none_each X (a + 1) n)
 
 -- ---- what was found under a cell, level by level
-abbrev pub cells_below : Questions → ℕ → ℕ → ℕ → ℕ → List Cell
-cells_below q zero r l p = cell_of q r l p ∷ []
-cells_below q (suc j) r l p = cond (is_left q (cell_of q r l p)) (cells_below q j r (suc l) (2 * p) ++ cells_below q j r (suc l) (2 * p + 1)) []
-
 abbrev pub under : Found → ℕ → List (List Found) → List (List Found)
 under (Some e) depth lists = replicate (suc depth) []
 under None depth lists = lists
 
 abbrev pub found_below : Questions → ℕ → ℕ → ℕ → ℕ → List (List Found)
-found_below q zero r l p = (q.first (cell_of q r l p) ∷ []) ∷ []
+found_below q zero r l p = (q.tests.first (cell_of q.grid r l p) ∷ []) ∷ []
 found_below q (suc depth) r l p =
-    (q.first (cell_of q r l p) ∷ []) ∷ under (q.first (cell_of q r l p)) depth (joined (found_below q depth r (suc l) (2 * p)) (found_below q depth r (suc l) (2 * p + 1)))
+    (q.tests.first (cell_of q.grid r l p) ∷ []) ∷ under (q.tests.first (cell_of q.grid r l p)) depth (joined (found_below q depth r (suc l) (2 * p)) (found_below q depth r (suc l) (2 * p + 1)))
 
 length-replicate : {X : Type 0} (n : ℕ) (x : X) → length (replicate n x) ≡ n
 length-replicate zero x = refl
@@ -82,27 +76,27 @@ length-replicate (suc n) x = ap suc (length-replicate n x)
 length-found : (q : Questions) (depth r l p : ℕ) → length (found_below q depth r l p) ≡ suc depth
 length-found q zero r l p = refl
 length-found q (suc depth) r l p =
-    elim (q.first (cell_of q r l p)) as (λ v. suc (length (under v depth (joined (found_below q depth r (suc l) (2 * p)) (found_below q depth r (suc l) (2 * p + 1))))) ≡ suc (suc depth)) [
+    elim (q.tests.first (cell_of q.grid r l p)) as (λ v. suc (length (under v depth (joined (found_below q depth r (suc l) (2 * p)) (found_below q depth r (suc l) (2 * p + 1))))) ≡ suc (suc depth)) [
       | Some e ↦ ap suc (length-replicate (suc depth) [])
       | None ↦ ap suc (length-joined (suc depth) (found_below q depth r (suc l) (2 * p)) (found_below q depth r (suc l) (2 * p + 1)) (length-found q depth r (suc l) (2 * p)) (length-found q depth r (suc l) (2 * p + 1)))
     ]
 
-found_is : (q : Questions) (depth r l p : ℕ) → found_below q depth r l p ≡ map (λ j. map q.first (cells_below q j r l p)) (count_from 0 (suc depth))
+found_is : (q : Questions) (depth r l p : ℕ) → found_below q depth r l p ≡ map (λ j. map q.tests.first (cells_below q j r l p)) (count_from 0 (suc depth))
 found_is q zero r l p = refl
 found_is q (suc depth) r l p =
     let lower : ℕ → List Cell = λ j. cells_below q j r (suc l) (2 * p) in
     let upper : ℕ → List Cell = λ j. cells_below q j r (suc l) (2 * p + 1) in
-    let f : Found = q.first (cell_of q r l p) in
-    let s : map (λ j. map q.first (cells_below q j r l p)) (count_from (0 + 1) (suc depth)) ≡ map (λ j. map q.first (cond (is_none f) (lower j ++ upper j) [])) (count_from 0 (suc depth)) =
-    shifted (λ j. map q.first (cells_below q j r l p)) 0 (suc depth) in
-    let b : under f depth (joined (found_below q depth r (suc l) (2 * p)) (found_below q depth r (suc l) (2 * p + 1))) ≡ map (λ j. map q.first (cond (is_none f) (lower j ++ upper j) [])) (count_from 0 (suc depth)) =
-    elim f as (λ v. under v depth (joined (found_below q depth r (suc l) (2 * p)) (found_below q depth r (suc l) (2 * p + 1))) ≡ map (λ j. map q.first (cond (is_none v) (lower j ++ upper j) [])) (count_from 0 (suc depth))) [
+    let f : Found = q.tests.first (cell_of q.grid r l p) in
+    let s : map (λ j. map q.tests.first (cells_below q j r l p)) (count_from (0 + 1) (suc depth)) ≡ map (λ j. map q.tests.first (cond (is_none f) (lower j ++ upper j) [])) (count_from 0 (suc depth)) =
+    shifted (λ j. map q.tests.first (cells_below q j r l p)) 0 (suc depth) in
+    let b : under f depth (joined (found_below q depth r (suc l) (2 * p)) (found_below q depth r (suc l) (2 * p + 1))) ≡ map (λ j. map q.tests.first (cond (is_none f) (lower j ++ upper j) [])) (count_from 0 (suc depth)) =
+    elim f as (λ v. under v depth (joined (found_below q depth r (suc l) (2 * p)) (found_below q depth r (suc l) (2 * p + 1))) ≡ map (λ j. map q.tests.first (cond (is_none v) (lower j ++ upper j) [])) (count_from 0 (suc depth))) [
       | Some e ↦ sym (none_each Found 0 (suc depth))
       | None ↦
           ap (λ xss. joined xss (found_below q depth r (suc l) (2 * p + 1))) (found_is q depth r (suc l) (2 * p))
-          ∙ ap (λ xss. joined (map (λ j. map q.first (lower j)) (count_from 0 (suc depth))) xss) (found_is q depth r (suc l) (2 * p + 1))
-          ∙ joined_maps (λ j. map q.first (lower j)) (λ j. map q.first (upper j)) (count_from 0 (suc depth))
-          ∙ map-same (λ j. map q.first (lower j) ++ map q.first (upper j)) (λ j. map q.first (lower j ++ upper j)) (λ j. sym (map-append q.first (lower j) (upper j))) (count_from 0 (suc depth))
+          ∙ ap (λ xss. joined (map (λ j. map q.tests.first (lower j)) (count_from 0 (suc depth))) xss) (found_is q depth r (suc l) (2 * p + 1))
+          ∙ joined_maps (λ j. map q.tests.first (lower j)) (λ j. map q.tests.first (upper j)) (count_from 0 (suc depth))
+          ∙ map-same (λ j. map q.tests.first (lower j) ++ map q.tests.first (upper j)) (λ j. map q.tests.first (lower j ++ upper j)) (λ j. sym (map-append q.tests.first (lower j) (upper j))) (count_from 0 (suc depth))
     ] in
     ap (λ xss. (f ∷ []) ∷ xss) (b ∙ sym s)
 
@@ -115,14 +109,14 @@ written_cell : (q : Questions) (depth r l p : ℕ) (rest : List (List Found)) �
 written_cell q depth r l p [] h = absurd (omega arith)
 written_cell q zero r l p (xs ∷ ys ∷ rest) h = absurd (omega arith)
 written_cell q zero r l p (xs ∷ []) h =
-    elim (q.first (cell_of q r l p)) as (λ v. written 1 ((v ∷ xs) ∷ []) ≡ record { lines = last_line v ∷ []; rest = xs ∷ [] }) [ Some e ↦ refl | None ↦ refl ]
+    elim (q.tests.first (cell_of q.grid r l p)) as (λ v. written 1 ((v ∷ xs) ∷ []) ≡ record { lines = last_line v ∷ []; rest = xs ∷ [] }) [ Some e ↦ refl | None ↦ refl ]
 written_cell q (suc depth) r l p (xs ∷ rest) h =
     let lower : List (List Found) = found_below q depth r (suc l) (2 * p) in
     let upper : List (List Found) = found_below q depth r (suc l) (2 * p + 1) in
     let lower_lines : List Node = tree_below q depth r (suc l) (2 * p) in
     let upper_lines : List Node = tree_below q depth r (suc l) (2 * p + 1) in
     let n : length rest ≡ suc depth = omega arith in
-    elim (q.first (cell_of q r l p)) as (λ v. written (suc (suc depth)) ((v ∷ xs) ∷ joined (under v depth (joined lower upper)) rest) ≡ record { lines = with_halves v (lower_lines ++ upper_lines); rest = xs ∷ rest }) [
+    elim (q.tests.first (cell_of q.grid r l p)) as (λ v. written (suc (suc depth)) ((v ∷ xs) ∷ joined (under v depth (joined lower upper)) rest) ≡ record { lines = with_halves v (lower_lines ++ upper_lines); rest = xs ∷ rest }) [
       | Some e ↦ ap (λ left. written_as (Refuted e ∷ []) (xs ∷ left)) (joined_none (suc depth) rest n)
       | None ↦
           let a : written (suc depth) (joined (joined lower upper) rest) ≡ record { lines = lower_lines; rest = joined upper rest } =
@@ -145,56 +139,25 @@ written_forest q level a zero = refl
 written_forest q level a (suc n) =
     rw (written_cell q level a 0 0 (forest q level (a + 1) n) (length-forest q level (a + 1) n)) (ap (λ lines. tree_below q level a 0 0 ++ lines) (written_forest q level (a + 1) n))
 
-forest_is : (q : Questions) (level a n : ℕ) → forest q level a n ≡ map (λ j. map q.first (flat_map (λ r. cells_below q j r 0 0) (count_from a n))) (count_from 0 (suc level))
+forest_is : (q : Questions) (level a n : ℕ) → forest q level a n ≡ map (λ j. map q.tests.first (flat_map (λ r. cells_below q j r 0 0) (count_from a n))) (count_from 0 (suc level))
 forest_is q level a zero = sym (none_each Found 0 (suc level))
 forest_is q level a (suc n) =
-    let here : ℕ → List Found = λ j. map q.first (cells_below q j a 0 0) in
+    let here : ℕ → List Found = λ j. map q.tests.first (cells_below q j a 0 0) in
     let more : ℕ → List Cell = λ j. flat_map (λ r. cells_below q j r 0 0) (count_from (a + 1) n) in
     ap (λ xss. joined xss (forest q level (a + 1) n)) (found_is q level a 0 0)
     ∙ ap (joined (map here (count_from 0 (suc level)))) (forest_is q level (a + 1) n)
-    ∙ joined_maps here (λ j. map q.first (more j)) (count_from 0 (suc level))
-    ∙ map-same (λ j. here j ++ map q.first (more j)) (λ j. map q.first (cells_below q j a 0 0 ++ more j)) (λ j. sym (map-append q.first (cells_below q j a 0 0) (more j))) (count_from 0 (suc level))
-
--- ---- the cells that a level bounds, by roots
-next_below : (q : Questions) → IsGrid q → (j r l p : ℕ) → l + j < q.finest → flat_map (halves_left q) (cells_below q j r l p) ≡ cells_below q (suc j) r l p
-next_below q grid zero r l p low =
-    elim (is_left q (cell_of q r l p)) as (λ v. cond v ((halves q.steps (cell_of q r l p)).0 ∷ (halves q.steps (cell_of q r l p)).1 ∷ []) [] ++ [] ≡ cond v (cell_of q r (suc l) (2 * p) ∷ cell_of q r (suc l) (2 * p + 1) ∷ []) []) [
-      | true ↦ ap (λ (h : Cell × Cell). h.0 ∷ h.1 ∷ []) (halves_at q grid r l p (omega arith))
-      | false ↦ refl
-    ]
-next_below q grid (suc j) r l p low =
-    elim (is_left q (cell_of q r l p)) as (λ v. flat_map (halves_left q) (cond v (cells_below q j r (suc l) (2 * p) ++ cells_below q j r (suc l) (2 * p + 1)) []) ≡ cond v (cells_below q (suc j) r (suc l) (2 * p) ++ cells_below q (suc j) r (suc l) (2 * p + 1)) []) [
-      | true ↦ flat_map-append (halves_left q) (cells_below q j r (suc l) (2 * p)) (cells_below q j r (suc l) (2 * p + 1))
-          ∙ ap (λ cs. cs ++ flat_map (halves_left q) (cells_below q j r (suc l) (2 * p + 1))) (next_below q grid j r (suc l) (2 * p) (omega arith))
-          ∙ ap (λ cs. cells_below q (suc j) r (suc l) (2 * p) ++ cs) (next_below q grid j r (suc l) (2 * p + 1) (omega arith))
-      | false ↦ refl
-    ]
-
-next_roots : (q : Questions) → IsGrid q → (j a n : ℕ) → j < q.finest → flat_map (halves_left q) (flat_map (λ r. cells_below q j r 0 0) (count_from a n)) ≡ flat_map (λ r. cells_below q (suc j) r 0 0) (count_from a n)
-next_roots q grid j a zero low = refl
-next_roots q grid j a (suc n) low =
-    flat_map-append (halves_left q) (cells_below q j a 0 0) (flat_map (λ r. cells_below q j r 0 0) (count_from (a + 1) n))
-    ∙ ap (λ cs. cs ++ flat_map (halves_left q) (flat_map (λ r. cells_below q j r 0 0) (count_from (a + 1) n))) (next_below q grid j a 0 0 (omega arith))
-    ∙ ap (λ cs. cells_below q (suc j) a 0 0 ++ cs) (next_roots q grid j (a + 1) n low)
-
-whole_roots : (q : Questions) → IsGrid q → (a n : ℕ) → map whole_root (count_from a n) ≡ flat_map (λ r. cell_of q r 0 0 ∷ []) (count_from a n)
-whole_roots q grid a zero = refl
-whole_roots q grid a (suc n) = ap (λ cs. whole_root a ∷ cs) (whole_roots q grid (a + 1) n) ∙ ap (λ c. c ∷ flat_map (λ r. cell_of q r 0 0 ∷ []) (count_from (a + 1) n)) (sym (root_at q grid a))
-
-pub candidates_by_roots : (q : Questions) → IsGrid q → (j : ℕ) → j ≤ q.finest → candidates q j ≡ flat_map (λ r. cells_below q j r 0 0) (count_from 1 q.roots)
-unfolding candidates
-candidates_by_roots q grid zero low = whole_roots q grid 1 q.roots
-candidates_by_roots q grid (suc j) low = ap (flat_map (halves_left q)) (candidates_by_roots q grid j (omega arith)) ∙ next_roots q grid j 1 q.roots (omega arith)
+    ∙ joined_maps here (λ j. map q.tests.first (more j)) (count_from 0 (suc level))
+    ∙ map-same (λ j. here j ++ map q.tests.first (more j)) (λ j. map q.tests.first (cells_below q j a 0 0 ++ more j)) (λ j. sym (map-append q.tests.first (cells_below q j a 0 0) (more j))) (count_from 0 (suc level))
 
 -- ---- what the levels keep
 abbrev pub kept : Questions → ℕ → List (List Found)
-kept q n = map (λ j. map q.first (candidates q j)) (count_from 0 n)
+kept q n = map (λ j. map q.tests.first (candidates q j)) (count_from 0 n)
 
-kept_from : (q : Questions) → IsGrid q → (a n : ℕ) → a + n ≤ suc q.finest → map (λ j. map q.first (candidates q j)) (count_from a n) ≡ map (λ j. map q.first (flat_map (λ r. cells_below q j r 0 0) (count_from 1 q.roots))) (count_from a n)
+kept_from : (q : Questions) → IsGrid q.grid → (a n : ℕ) → a + n ≤ suc q.grid.finest → map (λ j. map q.tests.first (candidates q j)) (count_from a n) ≡ map (λ j. map q.tests.first (flat_map (λ r. cells_below q j r 0 0) (count_from 1 q.grid.roots))) (count_from a n)
 kept_from q grid a zero low = refl
 kept_from q grid a (suc n) low = rw (candidates_by_roots q grid a (omega arith), kept_from q grid (a + 1) n (omega arith)) refl
 
-pub spells_tree : (q : Questions) → IsGrid q → (level : ℕ) → level ≤ q.finest → written_roots q.roots (suc level) (kept q (suc level)) ≡ tree q level
+pub spells_tree : (q : Questions) → IsGrid q.grid → (level : ℕ) → level ≤ q.grid.finest → written_roots q.grid.roots (suc level) (kept q (suc level)) ≡ tree q level
 unfolding tree
 spells_tree q grid level low =
-    ap (written_roots q.roots (suc level)) (kept_from q grid 0 (suc level) (omega arith) ∙ sym (forest_is q level 1 q.roots)) ∙ written_forest q level 1 q.roots
+    ap (written_roots q.grid.roots (suc level)) (kept_from q grid 0 (suc level) (omega arith) ∙ sym (forest_is q level 1 q.grid.roots)) ∙ written_forest q level 1 q.grid.roots

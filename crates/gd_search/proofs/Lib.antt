@@ -1,7 +1,5 @@
-pub mod Counted
-pub mod Forest
-mod KnownValues
-pub mod Levels
-pub mod Meant
+mod Forest
+mod Outcomes
+pub mod Rows
 mod Steps
 mod Writing

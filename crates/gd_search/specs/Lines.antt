@@ -1,9 +1,10 @@
--- The lines that the lists of the levels spell: each list has what was found in the cells of a level that are not written yet.
+-- The lines that the lists of the levels spell: each list has what was found in the cells of a level that are not
+-- written yet.
 use Rattle.std.specs.Prelude.{ℕ, zero, suc, Option, Some, None, List, [], ◌∷◌, ◌++◌, map, drop}
 use Rattle.gd_cells.specs.declared.cell.Evidence.{Evidence}
-use Rattle.gd_search.specs.Trees.{last_line}
+use Rattle.gd_verdict.specs.Trees.{last_line}
 use Rattle.gd_cells.specs.declared.node.Node.{Node}
-use Rattle.gd_cells.specs.declared.node.Node.TheVariants.{Split, Refuted}
+use Rattle.gd_cells.specs.declared.node.Node.TheVariants.{Refuted, Split}
 use Rattle.gd_search.specs.declared.tree.Level.{Level}
 
 abbrev pub Found : Type 0
@@ -14,7 +15,7 @@ pub record Written : Type 0 where
   pub lines : List Node
   pub rest : List (List Found)
 
--- the lines of the next cell of the first of so many lists, and of the cells below it: the last list has the last level
+-- the lines of the next cell of the first of so many lists, and of the cells below it
 abbrev pub written : ℕ → List (List Found) → Written
 written zero lists = record { lines = []; rest = lists }
 written (suc n) [] = record { lines = []; rest = [] }

@@ -1,7 +1,7 @@
 // The rows of a level in halves, which threads bound side by side.
 ghost use Rattle.std.specs.Prelude.{◌≡◌, ◌≤◌, map};
 ghost use Rattle.std.specs.List.{All};
-ghost use Rattle.gd_cells.specs.Meaning.{IsCell};
+ghost use Rattle.gd_cells.specs.Grid.{IsCell};
 ghost use Rattle.gd_search.specs.Rows.{judged};
 
 use crate::row::{Row, bound_rows};
@@ -47,7 +47,7 @@ fn chunks_of(level: u32, looks: usize, most: usize) -> usize
 // one half of each cut to a thread where one can be made.
 fn bound_chunks<R: Threads + Sync, T: Task>(rt: &R, task: &T, chunks: usize, rows: &mut [Row])
     requires chunks { 1 ≤ chunks }
-    requires cells { All (λ row. IsCell (T.questions task.now) row.cell) rows.old }
+    requires cells { All (λ row. IsCell (T.questions task.now).grid row.cell) rows.old }
     ensures { rows.new ≡ map (judged (T.questions task.now)) rows.old }
 {
     if chunks == 1 || rows.is_empty() {
@@ -60,7 +60,7 @@ fn bound_chunks<R: Threads + Sync, T: Task>(rt: &R, task: &T, chunks: usize, row
         rows,
         size,
         &|_, chunk: &mut [Row]| -> ()
-            requires { All (λ row. IsCell (T.questions task.now) row.cell) chunk.now }
+            requires { All (λ row. IsCell (T.questions task.now).grid row.cell) chunk.now }
         { bound_rows(task, chunk) },
     );
 }
@@ -75,7 +75,7 @@ pub fn bound_level<R: Threads + Sync, T: Task>(
     rows: &mut Vec<Row>,
 )
     requires most { 2 ≤ most }
-    requires cells { All (λ row. IsCell (T.questions task.now) row.cell) rows.old.items }
+    requires cells { All (λ row. IsCell (T.questions task.now).grid row.cell) rows.old.items }
     ensures { rows.new.items ≡ map (judged (T.questions task.now)) rows.old.items }
 {
     let rows = rows.as_mut_slice();

@@ -1,23 +1,21 @@
 // The search.
 ghost use Rattle.std.specs.Prelude.{◌≡◌, ◌≤◌, ◌<◌, ◌+◌, ◌*◌, ◌^◌, ◌≢◌, IfOk, List, ℕ, None, find, length, option_map};
 ghost use Rattle.std.specs.List.{All};
-ghost use Rattle.gd_cells.specs.Meaning.{IsCell};
+ghost use Rattle.gd_cells.specs.Grid.{IsCell};
 ghost use Rattle.gd_search.specs.Lines.{left_of, written_roots};
 ghost use Rattle.gd_search.specs.Outcomes.{AcceptsRightly, RejectsRightly, end_of};
 ghost use Rattle.gd_search.specs.Stops.{end_of_stop};
-ghost use Rattle.gd_search.specs.Trees.{leaves_of};
-ghost use Rattle.gd_search.specs.Verdict.{IsVerdict, end_with};
+ghost use Rattle.gd_verdict.specs.Trees.{leaves_of};
+ghost use Rattle.gd_verdict.specs.Verdict.{IsVerdict, counts_of, end_with};
 ghost use Rattle.gd_cells.specs.declared.node.Node.{Node};
 
 use crate::halves::{bound_level, most_chunks};
 use crate::outcome::Outcome;
 use crate::row::{Row, count_undecided, first_holding, half_rows, root_rows};
 use crate::tree::{Level, keep_level, write_tree};
-use gd_base::{Memory, Reason};
-use gd_cells::{
-    Task, Witness, show_centre_in_range, show_centre_names_place, show_first_refutes, show_grid,
-    show_halves_cover, show_holds_is_feasible, show_refuted_is_empty, show_roots_cover,
-};
+use gd_base::{Counts, Memory, Reason};
+use gd_cells::{Task, Witness, show_laws};
+use gd_verdict::show_verdict_means;
 use std::alloc::Global;
 use std::thread::Threads;
 
@@ -26,7 +24,7 @@ use std::thread::Threads;
 pub enum Stop {
     Accept(Witness),
     Reject,
-    Open(Reason),
+    Open(Counts),
 }
 
 // Where a search stands: the level, the undecided cells of that level, and those that were split before.
@@ -37,11 +35,25 @@ pub struct Place {
     pub spent: u32,
 }
 
+impl Place {
+    // What an open verdict says that stops here.
+    fn counts(self, reason: Reason) -> Counts
+        ensures { result ≡ counts_of self.level self.undecided self.spent reason }
+    {
+        Counts {
+            level: self.level,
+            undecided: self.undecided,
+            spent: self.spent,
+            reason,
+        }
+    }
+}
+
 // The centre of the first cell whose centre holds.
-#[tactic(auto, using(crate::proofs::Levels::held_cell))]
+#[tactic(auto, using(crate::proofs::Rows::held_cell))]
 fn first_witness<T: Task>(task: &T, rows: &[Row]) -> Option<Witness>
-    requires { All (λ row. IsCell (T.questions task.now) row.cell) rows.now }
-    ensures { result ≡ option_map (λ row. (T.questions task.now).centre row.cell) (find (λ row. row.holds) rows.now) }
+    requires { All (λ row. IsCell (T.questions task.now).grid row.cell) rows.now }
+    ensures { result ≡ option_map (λ row. (T.questions task.now).tests.centre row.cell) (find (λ row. row.holds) rows.now) }
 {
     match first_holding(rows) {
         Some(cell) => Some(task.centre(&cell)),
@@ -63,9 +75,9 @@ fn stop_at(holding: Option<Witness>, place: Place, finest: u32, budget: u32) -> 
     if place.undecided == 0 {
         Some(Stop::Reject)
     } else if place.level == finest {
-        Some(Stop::Open(Reason::Floor))
+        Some(Stop::Open(place.counts(Reason::Floor)))
     } else if budget < place.spent + place.undecided {
-        Some(Stop::Open(Reason::Budget))
+        Some(Stop::Open(place.counts(Reason::Budget)))
     } else {
         None
     }
@@ -96,15 +108,9 @@ fn finish(
             let tree = write_tree(alloc, roots, lines, levels)?;
             Ok(Outcome::Reject { tree })
         }
-        Stop::Open(reason) => {
+        Stop::Open(counts) => {
             let tree = write_tree(alloc, roots, lines, levels)?;
-            Ok(Outcome::StillOpen {
-                tree,
-                level: place.level,
-                undecided: place.undecided,
-                spent: place.spent,
-                reason,
-            })
+            Ok(Outcome::StillOpen { tree, counts })
         }
     }
 }
@@ -119,9 +125,9 @@ fn search_levels<R: Threads + Sync, T: Task>(
     requires { budget ≤ 1000000 }
     ensures { IfOk result (λ o. IsVerdict (T.questions task.now) budget (end_of o)) }
 {
-    show_grid(task);
+    show_laws::<T>();
     let roots = task.roots();
-    let finest = task.floor_level();
+    let finest = task.finest_level();
     let most = most_chunks(rt);
     let mut levels = Vec::new(alloc);
     let mut rows = root_rows(alloc, roots)?;
@@ -162,14 +168,7 @@ pub fn search<R: Threads + Sync, T: Task>(
     ensures accept { IfOk result
         (λ o. AcceptsRightly (T.questions task.now) (T.feasible task.now) (T.assignment task.now) o) }
 {
-    show_grid(task);
-    show_roots_cover(task);
-    show_halves_cover(task);
-    show_first_refutes(task);
-    show_refuted_is_empty(task);
-    show_centre_in_range(task);
-    show_centre_names_place(task);
-    show_holds_is_feasible(task);
+    show_verdict_means::<T>();
     let outcome = search_levels(rt, alloc, task, budget)?;
     Ok(outcome)
 }

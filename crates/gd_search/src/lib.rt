@@ -11,4 +11,3 @@ mod tree;
 
 pub use judge::search;
 pub use outcome::Outcome;
-pub use tree::leaves;

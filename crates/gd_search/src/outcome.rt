@@ -1,5 +1,5 @@
 // How a search ends.
-use gd_base::Reason;
+use gd_base::Counts;
 use gd_cells::{Node, Witness};
 
 /// How a search ends. Levels count how often cells were halved, from 0 on.
@@ -8,20 +8,9 @@ use gd_cells::{Node, Witness};
 #[derive(Debug, Drop)]
 pub enum Outcome {
     /// At this level the centre of a cell is the first that holds.
-    Accept {
-        witness: Witness,
-        level: u32,
-    },
+    Accept { witness: Witness, level: u32 },
     /// Every cell was refuted.
-    Reject {
-        tree: Vec<Node>,
-    },
-    /// Neither: so many cells are undecided at this level, and so many were split before.
-    StillOpen {
-        tree: Vec<Node>,
-        level: u32,
-        undecided: u32,
-        spent: u32,
-        reason: Reason,
-    },
+    Reject { tree: Vec<Node> },
+    /// Neither: where the search stood when it stopped.
+    StillOpen { tree: Vec<Node>, counts: Counts },
 }

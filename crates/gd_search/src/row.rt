@@ -1,13 +1,12 @@
 // The rows of a level: its cells, and what their bounding finds.
 ghost use Rattle.std.specs.Prelude.{◌≡◌, ◌≤◌, ◌<◌, ◌*◌, IfOk, find, filter, length, map, option_map, vec_len};
 ghost use Rattle.std.specs.List.{All, flat_map};
-ghost use Rattle.gd_cells.specs.Grid.{count_from};
+ghost use Rattle.gd_cells.specs.Grid.{IsCell, count_from};
 ghost use Rattle.gd_cells.specs.Halves.{whole_root};
-ghost use Rattle.gd_cells.specs.Meaning.{IsCell};
 ghost use Rattle.gd_search.specs.Rows.{fresh, is_open, judged, rows_below};
 
 use gd_base::Memory;
-use gd_cells::{Cell, Evidence, Task, root_cell, show_centre_in_range};
+use gd_cells::{Cell, Evidence, Task, root_cell, show_laws};
 use std::alloc::Global;
 
 /// A cell, what refutes it first, and whether its centre holds. Where something refutes it, its centre isn't tried.
@@ -43,18 +42,18 @@ pub fn root_rows(alloc: Global, roots: u32) -> Result<Vec<Row>, Memory>
 
 // Bounds the cell of one row, and tries its centre where it stays undecided.
 fn bound_row<T: Task>(task: &T, row: &mut Row)
-    requires { IsCell (T.questions task.now) row.old.cell }
+    requires { IsCell (T.questions task.now).grid row.old.cell }
     ensures { row.new ≡ judged (T.questions task.now) row.old }
 {
-    show_centre_in_range(task);
+    show_laws::<T>();
     row.found = task.refutes(&row.cell);
     row.holds = row.found.is_none() && task.holds(&task.centre(&row.cell));
 }
 
 /// Bounds the cells of the rows, in order.
-#[tactic(auto, using(crate::proofs::Levels::cell_of_row))]
+#[tactic(auto, using(crate::proofs::Rows::cell_of_row))]
 pub fn bound_rows<T: Task>(task: &T, rows: &mut [Row])
-    requires { All (λ row. IsCell (T.questions task.now) row.cell) rows.old }
+    requires { All (λ row. IsCell (T.questions task.now).grid row.cell) rows.old }
     ensures { rows.new ≡ map (judged (T.questions task.now)) rows.old }
 {
     for row in rows.iter_mut() {
@@ -78,15 +77,15 @@ pub fn first_holding(rows: &[Row]) -> Option<Cell>
 }
 
 /// The rows of the halves of the undecided cells, in order, of which there are so many.
-#[tactic(auto, using(crate::proofs::Levels::cell_of_row, crate::proofs::Levels::above_of_row))]
+#[tactic(auto, using(crate::proofs::Rows::cell_of_row, crate::proofs::Rows::above_of_row))]
 pub fn half_rows<T: Task>(
     alloc: Global,
     task: &T,
     rows: &[Row],
     undecided: usize,
 ) -> Result<Vec<Row>, Memory>
-    requires cells { All (λ row. IsCell (T.questions task.now) row.cell) rows.now }
-    requires above { All (λ row. row.cell.level < (T.questions task.now).finest) rows.now }
+    requires cells { All (λ row. IsCell (T.questions task.now).grid row.cell) rows.now }
+    requires above { All (λ row. row.cell.level < (T.questions task.now).grid.finest) rows.now }
     requires room { undecided ≤ 1000000 }
     ensures rows { IfOk result (λ v. v.items ≡ flat_map (rows_below (T.questions task.now)) rows.now) }
 {

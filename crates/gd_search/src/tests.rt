@@ -1,35 +1,12 @@
 // Outcomes of a small task, and the threads of its levels.
-ghost use Rattle.std.specs.Prelude.{◌≡◌, ◌≤◌, refl};
-ghost use Rattle.gd_search.specs.Toys.{ends, evidence_of, feasible_of, inside_all, toy, witness_of};
-ghost use Rattle.gd_search.specs.ToyLaws as laws;
-
-use crate::{Outcome, leaves, search};
+use crate::{Outcome, search};
 use gd_base::Reason;
-use gd_cells::{Cell, Evidence, Node, Task, Witness, split_cell};
+use gd_cells::{Cell, MOST_DIMS, Node};
+use gd_toys::{Toy, Watch};
+use gd_verdict::leaves;
 use std::alloc::{AllocError, Global};
 use std::sync::atomic::{AtomicBool, Ordering};
 use std::test::Fail;
-
-fn evidence(cell: &Cell) -> Evidence
-    ensures { result ≡ evidence_of cell.now }
-{
-    Evidence {
-        condition: 1,
-        a: cell.root,
-        b: 0,
-    }
-}
-
-fn witness(cell: &Cell) -> Witness
-    ensures { result ≡ witness_of cell.now }
-{
-    let mut at = [0; 12];
-    at[0] = i64::from(cell.level);
-    Witness {
-        root: cell.root,
-        at,
-    }
-}
 
 // Two cells of a level. Each sets its flag, and looks whether the other's is set while it is bounded.
 #[derive(Drop)]
@@ -47,8 +24,10 @@ impl Meeting {
             met: [AtomicBool::new(false), AtomicBool::new(false)],
         }
     }
+}
 
-    fn meet(&self, cell: &Cell) {
+impl Watch for Meeting {
+    fn see(&self, cell: &Cell) {
         let (own, other) = if *cell == self.cells[0] {
             (0, 1)
         } else if *cell == self.cells[1] {
@@ -64,108 +43,6 @@ impl Meeting {
             }
         }
     }
-}
-
-// Where it shows, every assignment is feasible, and centres hold from the level `least` on. Else none is, and cells are
-// refuted from `depth` on, and those of the first root from level 1 on.
-#[derive(Drop)]
-struct Toy<'a> {
-    shows: bool,
-    depth: u32,
-    least: i64,
-    finest: u32,
-    points: usize,
-    meeting: Option<&'a Meeting>,
-    ghost few: { finest ≤ 60 },
-}
-
-impl Toy<'_> {
-    fn ends(&self, cell: &Cell) -> bool
-        ensures { result ≡ ends self.now.depth cell.now }
-    {
-        self.depth <= cell.level || (cell.root == 1 && cell.level == 1)
-    }
-}
-
-impl Task for Toy<'_> {
-    ghost questions = { λ t. toy t.shows t.depth t.least t.finest };
-
-    ghost feasible = { λ t. feasible_of t.shows };
-
-    ghost inside = { λ t. inside_all };
-
-    ghost assignment = { λ t w. w.at };
-
-    fn roots(&self) -> u32 {
-        2
-    }
-
-    fn dims(&self) -> u32 {
-        1
-    }
-
-    fn numbers(&self) -> u32 {
-        2
-    }
-
-    fn floor_level(&self) -> u32 {
-        self.finest
-    }
-
-    fn points(&self) -> usize {
-        self.points
-    }
-
-    fn split(&self, cell: &Cell) -> (Cell, Cell) {
-        split_cell(cell, 0)
-    }
-
-    fn refutes(&self, cell: &Cell) -> Option<Evidence> {
-        if let Some(meeting) = self.meeting {
-            meeting.meet(cell);
-        }
-        if !self.shows && self.ends(cell) {
-            Some(evidence(cell))
-        } else {
-            None
-        }
-    }
-
-    fn refutes_at(&self, cell: &Cell, _evidence: &Evidence) -> bool {
-        !self.shows && self.ends(cell)
-    }
-
-    fn centre(&self, cell: &Cell) -> Witness {
-        witness(cell)
-    }
-
-    fn in_range(&self, _witness: &Witness) -> bool {
-        true
-    }
-
-    fn holds(&self, witness: &Witness) -> bool {
-        self.shows && self.least <= witness.at[0]
-    }
-
-    ghost is_grid = { λ t. laws.toy-grid t.shows t.depth t.least t.finest t.few };
-
-    ghost roots_cover = { λ t. laws.toy-roots t.shows t.depth t.least t.finest };
-
-    ghost halves_cover = { λ t. laws.toy-halves t.shows t.depth t.least t.finest };
-
-    ghost first_refutes = { λ t. laws.toy-first t.shows t.depth t.least t.finest };
-
-    ghost none_refutes = { λ t. laws.toy-none t.shows t.depth t.least t.finest };
-
-    ghost first_is_short = { λ t. laws.toy-short t.shows t.depth t.least t.finest t.few };
-
-    ghost refuted_is_empty = { λ t. laws.toy-empty t.shows t.depth t.least t.finest };
-
-    ghost centre_in_range = { λ t c cell. refl };
-
-    ghost holds_is_feasible = { λ t. laws.toy-shown t.shows t.depth t.least t.finest };
-
-    ghost centre_names_place = { λ t. laws.toy-places t.shows t.depth t.least t.finest t.few };
 }
 
 // A letter a line: `s`, `r` or `o`.
@@ -191,19 +68,16 @@ fn told(alloc: Global, outcome: &Outcome) -> Result<String, AllocError> {
             let lines = spelled(alloc, tree)?;
             format!(in alloc; "reject {} {lines}", leaves(tree))
         }
-        Outcome::StillOpen {
-            tree,
-            level,
-            undecided,
-            spent,
-            reason,
-        } => {
+        Outcome::StillOpen { tree, counts } => {
             let lines = spelled(alloc, tree)?;
-            let why = match reason {
+            let why = match counts.reason {
                 Reason::Budget => "budget",
                 Reason::Floor => "floor",
             };
-            format!(in alloc; "open {why} {level} {undecided} {spent} {lines}")
+            format!(in alloc;
+                "open {why} {} {} {} {lines}",
+                counts.level, counts.undecided, counts.spent
+            )
         }
     }
 }
@@ -232,7 +106,7 @@ fn outcomes(rt: HostRuntime) -> Result<(), Fail> {
             least: i64::from(number),
             finest: 3,
             points: 1,
-            meeting: None,
+            watch: &(),
         };
         let outcome = search(&rt, alloc, &toy, budget)?;
         let got = told(alloc, &outcome)?;
@@ -243,7 +117,7 @@ fn outcomes(rt: HostRuntime) -> Result<(), Fail> {
 
 // The cell of a root and an index at a level.
 fn cell(root: u32, level: u32, first: u64) -> Cell {
-    let mut index = [0; 12];
+    let mut index = [0; MOST_DIMS];
     index[0] = first;
     Cell { root, level, index }
 }
@@ -274,7 +148,7 @@ fn halves_meet(rt: HostRuntime) -> Result<(), Fail> {
             least: 0,
             finest: 8,
             points,
-            meeting: Some(&meeting),
+            watch: &meeting,
         };
         let outcome = search(&rt, rt.alloc(), &toy, 1_000)?;
         assert!(rt; matches!(outcome, Outcome::Reject { .. }), "{name}");

@@ -1,7 +1,6 @@
 // The tree of a search, from what was found in the cells of its levels.
 ghost use Rattle.std.specs.Prelude.{◌≡◌, ◌+◌, ◌++◌, OnOk, length, map, IfOk, drop, MatchOption, [], ◌∷◌};
 ghost use Rattle.gd_search.specs.Lines.{left_of, written, written_roots};
-ghost use Rattle.gd_search.specs.Trees.{leaves_of};
 
 use crate::row::Row;
 use gd_base::Memory;
@@ -95,11 +94,4 @@ pub fn write_tree(
     let mut lines = Vec::with_capacity(alloc, room as usize)?;
     write_roots(levels.as_mut_slice(), roots, &mut lines)?;
     Ok(lines)
-}
-
-/// How many cells of a tree are refuted.
-pub fn leaves(tree: &[Node]) -> usize
-    ensures { result ≡ leaves_of tree.now }
-{
-    tree.iter().filter(|node| node.is_refuted()).count()
 }

@@ -1,9 +1,9 @@
 use Rattle.std.proofs.Common.{◌≡◌, ◌≤◌, ◌<◌, ◌-◌, ℕ, None, length, map, ◌+◌, ◌*◌}
 use Rattle.gd_search.proofs.Forest.{kept}
-use Rattle.gd_search.proofs.Levels.{candidates}
+use Rattle.gd_verdict.proofs.Levels.{candidates}
 use Rattle.gd_search.specs.Lines.{left_of}
 use Rattle.gd_search.specs.Rows.{fresh}
-use Rattle.gd_search.specs.Verdict.{end_at, spent}
+use Rattle.gd_verdict.specs.Verdict.{end_at, spent}
 use Rattle.gd_search.proofs.judge.search_levels.Given as goal
 
 abbrev pub invariant-levels : goal.invariant-levels

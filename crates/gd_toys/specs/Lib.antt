@@ -1,0 +1,2 @@
+pub mod ToyLaws
+pub mod Toys
