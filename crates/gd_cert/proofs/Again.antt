@@ -4,19 +4,18 @@ use Rattle.std.specs.Prelude.{Result, Ok, codes}
 use Rattle.std.specs.List.{All, flat_map}
 use Rattle.std.proofs.lemmas.List.{append_assoc, append-nil, length-append, map-append}
 use Rattle.std.proofs.lemmas.List.Elements.{All-tail}
-use Rattle.gd_base.specs.declared.verdict.Reason.{Reason}
+use Rattle.gd_base.specs.declared.verdict.Counts.{Counts}
 use Rattle.gd_cells.specs.declared.node.Node.{Node}
 use Rattle.gd_cells.specs.declared.node.Node.TheVariants.{Split, Refuted, Left}
-use Rattle.gd_cert.proofs.Lines.{counts_again, counts_words, group_again, group_line, heading_again, node_again, ok_same, share_again, told_again, witness_again, witness_words}
+use Rattle.gd_cert.proofs.Lines.{counts_again, group_again, group_line, heading_again, node_again, ok_same, share_again, told_again, witness_again, witness_words}
 use Rattle.gd_cert.proofs.Split.{Clean, Lines, counts_line, end_line, group_is_line, heading_line, line_step, node_line, share_line, title_line, told_line, witness_line}
 use Rattle.gd_cert.specs.Bounds.{BodyFits, IsDecided, IsInBounds, NodeFits}
 use Rattle.gd_cert.specs.Certificates.{Body, Accept, Reject, Open, Certificate}
-use Rattle.gd_cert.specs.Lines.{counts_of, open_body, ends_tree, verdict_in}
+use Rattle.gd_cert.specs.Lines.{ends_tree, verdict_in}
 use Rattle.gd_cert.specs.Reading.{Draft, Placed, at_stage, bodies_of, certificate_in, drafted, drafted_from, empty_draft, reading, with_body, with_group, with_line, with_node, with_tree_in}
-use Rattle.gd_cert.specs.Text.{body_lines, groups_lines, heading_words, line_text, lines, node_words, text, title, verdict_word}
+use Rattle.gd_cert.specs.Text.{body_lines, groups_lines, heading_words, line_text, lines, node_words, text, title, verdict_word, counts_words}
 use Rattle.gd_cert.specs.Words.{and_then_read, pieces}
 use Rattle.gd_cert.specs.declared.fault.CertFault.{CertFault}
-use Rattle.gd_cert.specs.declared.stage.Counts.{Counts}
 use Rattle.gd_cert.specs.declared.stage.Stage.{Stage}
 use Rattle.gd_cert.specs.declared.stage.Stage.TheVariants as stage
 
@@ -78,7 +77,7 @@ behind_reject : (d : Draft) → d.stage ≡ stage.Reject → IsAsBetween d (with
 unfolding with_line
 behind_reject d at line words ends = rw (at, ends) refl
 
-behind_open : (d : Draft) (o : Counts) → d.stage ≡ stage.Open o → IsAsBetween d (with_tree_in (open_body o d.tree) d)
+behind_open : (d : Draft) (o : Counts) → d.stage ≡ stage.Open o → IsAsBetween d (with_tree_in (Open o d.tree) d)
 unfolding with_line
 behind_open d o at line words ends = rw (at, ends) refl
 
@@ -175,23 +174,23 @@ reject_again tree bodies line g fits all none few =
     )
     (then_all bodies (line + 1 + length tree) line u g (with_tree_in (Reject tree) u) (Reject tree) all (behind_reject u refl) refl refl few)
 
-open_again : (l u p : ℕ) (r : Reason) (tree : List Node) (bodies : List Body) (line : ℕ) (g : Draft) → BodyFits (Open l u p r tree) → AllRead bodies → g.tree ≡ []
-    → next_number g + length (Open l u p r tree ∷ bodies) ≤ 2 ^ 32
-    → IsRead (line + 1) (begun_draft line stage.Counts g) (body_lines (Open l u p r tree) ++ (groups_lines (next_number g + 1) bodies ++ End)) (with_bodies g (Open l u p r tree ∷ bodies))
+open_again : (o : Counts) (tree : List Node) (bodies : List Body) (line : ℕ) (g : Draft) → BodyFits (Open o tree) → AllRead bodies → g.tree ≡ []
+    → next_number g + length (Open o tree ∷ bodies) ≤ 2 ^ 32
+    → IsRead (line + 1) (begun_draft line stage.Counts g) (body_lines (Open o tree) ++ (groups_lines (next_number g + 1) bodies ++ End)) (with_bodies g (Open o tree ∷ bodies))
 unfolding with_line
-open_again l u p r tree bodies line g fits all none few =
+open_again o tree bodies line g fits all none few =
     let later = groups_lines (next_number g + 1) bodies ++ End in
     let e = begun_draft line stage.Counts g in
-    let f = at_stage (stage.Open (counts_of l u p r)) e in
+    let f = at_stage (stage.Open o) e in
     let v = grown f tree in
     let whole : g.tree ++ tree ≡ tree = ap (λ (ns : List Node). ns ++ tree) none in
-    then_read (line + 1) (line + 1 + 1 + length tree) e v _ later (with_bodies g (Open l u p r tree ∷ bodies))
+    then_read (line + 1) (line + 1 + 1 + length tree) e v _ later (with_bodies g (Open o tree ∷ bodies))
     (
-    line_step (line + 1) (counts_words l u p r) (map node_words tree ++ later) e f (counts_line l u p r fits.0) (ap (λ q. and_then_read q (λ s. Ok (at_stage s e))) (counts_again l u p r fits.0))
-    ∙ tree_again (stage.Open (counts_of l u p r)) true (in_open (counts_of l u p r)) tree (line + 1 + 1) f later refl fits.1 (λ k d lt is. cc is)
+    line_step (line + 1) (counts_words o) (map node_words tree ++ later) e f (counts_line o fits.0) (ap (λ q. and_then_read q (λ s. Ok (at_stage s e))) (counts_again o fits.0))
+    ∙ tree_again (stage.Open o) true (in_open o) tree (line + 1 + 1) f later refl fits.1 (λ k d lt is. cc is)
     ∙ (λ i. Reads (line + 1 + 1 + length tree) (grown f (whole i)) later)
     )
-    (then_all bodies (line + 1 + 1 + length tree) line v g (with_tree_in (Open l u p r tree) v) (Open l u p r tree) all (behind_open v (counts_of l u p r) refl) refl refl few)
+    (then_all bodies (line + 1 + 1 + length tree) line v g (with_tree_in (Open o tree) v) (Open o tree) all (behind_open v o refl) refl refl few)
 
 group_of : (body : Body) (bodies : List Body) (word : List ℕ) (s : Stage) (line : ℕ) (d g : Draft) → word ≡ verdict_word body → IsAsBetween d g → next_number g + length (body ∷ bodies) ≤ 2 ^ 32
     → Clean word → verdict_in (word ∷ []) ≡ Some s
@@ -214,9 +213,9 @@ groups_again (Accept root at ∷ bodies) fits = λ line d g like none few.
 groups_again (Reject tree ∷ bodies) fits = λ line d g like none few.
     group_of (Reject tree) bodies (codes "reject") stage.Reject line d g refl like few refl refl
     (reject_again tree bodies line g (fits 0 (Reject tree) (omega arith)) (groups_again bodies (All-tail BodyFits (Reject tree) bodies fits)) none few)
-groups_again (Open l u p r tree ∷ bodies) fits = λ line d g like none few.
-    group_of (Open l u p r tree) bodies (codes "open") stage.Counts line d g refl like few refl refl
-    (open_again l u p r tree bodies line g (fits 0 (Open l u p r tree) (omega arith)) (groups_again bodies (All-tail BodyFits (Open l u p r tree) bodies fits)) none few)
+groups_again (Open o tree ∷ bodies) fits = λ line d g like none few.
+    group_of (Open o tree) bodies (codes "open") stage.Counts line d g refl like few refl refl
+    (open_again o tree bodies line g (fits 0 (Open o tree) (omega arith)) (groups_again bodies (All-tail BodyFits (Open o tree) bodies fits)) none few)
 
 -- ---- the head, and the whole text
 

@@ -5,6 +5,7 @@ use Rattle.std.proofs.lemmas.Bool.Decides.{nat_tests}
 use Rattle.std.specs.Borrow.{Bor}
 use Rattle.std.proofs.lemmas.List.{length-append, length-map, map-append}
 use Rattle.std.proofs.lemmas.List.Splits.{length-slice_split}
+use Rattle.gd_cells.specs.Grid.{MOST_DIMS}
 use Rattle.gd_cert.specs.Certificates.{Body}
 use Rattle.gd_cert.specs.Drafts.{TellsAlike, texts}
 use Rattle.gd_cert.specs.Lines.{place_in, witness_in}
@@ -15,17 +16,17 @@ use Rattle.gd_cert.specs.declared.rule.Rule.TheVariants as rule
 use Rattle.gd_cert.specs.declared.stage.Stage.{Stage}
 use Rattle.gd_cert.specs.declared.stage.Stage.TheVariants as stage
 
--- a witness of more than 12 numbers
-too_many : (root : List ℕ) (at : List (List ℕ)) → 12 < length at → place_in (root ∷ at) ≡ Err rule.Words
+-- a witness of more than MOST_DIMS numbers
+too_many : (root : List ℕ) (at : List (List ℕ)) → MOST_DIMS < length at → place_in (root ∷ at) ≡ Err rule.Words
 too_many root at many =
     let low : nat_le 2 (length at) ≡ true = grind (arith, nat_tests) in
-    let high : nat_le (length at) 12 ≡ false = grind (arith, nat_tests) in
+    let high : nat_le (length at) MOST_DIMS ≡ false = grind (arith, nat_tests) in
     rw (low, high) refl
 
-same_place : (a root : List ℕ) (xs ys : List (List ℕ)) → 12 < length xs → 12 < length ys → witness_in (a ∷ root ∷ xs) ≡ witness_in (a ∷ root ∷ ys)
+same_place : (a root : List ℕ) (xs ys : List (List ℕ)) → MOST_DIMS < length xs → MOST_DIMS < length ys → witness_in (a ∷ root ∷ xs) ≡ witness_in (a ∷ root ∷ ys)
 same_place a root xs ys many other = ap (λ (r : Result Body Rule). cond (is_word a (codes "w")) r (Err rule.Expected)) (too_many root xs many ∙ sym (too_many root ys other))
 
-alike_at : (s : Stage) (line : ℕ) (d : Draft) (a b c e f : List ℕ) (xs ys : List (List ℕ)) → 12 < length (c ∷ e ∷ f ∷ xs) → 12 < length (c ∷ e ∷ f ∷ ys) → 0 < length xs → 0 < length ys
+alike_at : (s : Stage) (line : ℕ) (d : Draft) (a b c e f : List ℕ) (xs ys : List (List ℕ)) → MOST_DIMS < length (c ∷ e ∷ f ∷ xs) → MOST_DIMS < length (c ∷ e ∷ f ∷ ys) → 0 < length xs → 0 < length ys
     → with_line_at s line (a ∷ b ∷ c ∷ e ∷ f ∷ xs) d ≡ with_line_at s line (a ∷ b ∷ c ∷ e ∷ f ∷ ys) d
 alike_at s line d a b c e f [] ys many other some others = absurd (omega arith)
 alike_at s line d a b c e f (x ∷ xs) [] many other some others = absurd (omega arith)

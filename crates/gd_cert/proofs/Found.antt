@@ -4,14 +4,14 @@ use Rattle.std.specs.Prelude.{Ok, codes}
 use Rattle.std.specs.List.{All}
 use Rattle.std.proofs.lemmas.List.{length-append, length-map, map-append, append_assoc, append-nil}
 use Rattle.std.proofs.lemmas.List.Elements.{All-nil, All-push}
+use Rattle.gd_base.specs.declared.verdict.Counts.{Counts}
 use Rattle.gd_cells.specs.declared.node.Node.{Node}
-use Rattle.gd_cert.proofs.Lines.{IsCountsLine, IsGroupLine, IsNodeLine, IsWitness, bind_ok, chosen, counts_words, group_found, group_line, node_found, ok_same}
+use Rattle.gd_cert.proofs.Lines.{IsCountsLine, IsGroupLine, IsNodeLine, IsWitness, bind_ok, chosen, group_found, group_line, node_found, ok_same}
 use Rattle.gd_cert.specs.Bounds.{BodyFits, CountsFit, IsDecided, IsInBounds, NodeFits}
 use Rattle.gd_cert.specs.Certificates.{Body, Accept, Reject, Open}
-use Rattle.gd_cert.specs.Lines.{ends_tree, group_in, node_in, open_body}
+use Rattle.gd_cert.specs.Lines.{ends_tree, group_in, node_in}
 use Rattle.gd_cert.specs.Reading.{Draft, Placed, at_stage, bodies_of, certificate_in, lines_of, with_tree_in, with_body, with_group, with_tree_line}
-use Rattle.gd_cert.specs.Text.{body_lines, first_lines, groups_lines, heading_words, node_words, title, verdict_word}
-use Rattle.gd_cert.specs.declared.stage.Counts.{Counts}
+use Rattle.gd_cert.specs.Text.{body_lines, first_lines, groups_lines, heading_words, node_words, title, verdict_word, counts_words}
 use Rattle.gd_cert.specs.declared.stage.Stage.{Stage}
 use Rattle.gd_cert.specs.declared.stage.Stage.TheVariants as stage
 
@@ -63,7 +63,7 @@ told_lines stage.Group d = front d d.groups
 told_lines stage.Witness d = front d d.groups ++ group_line (next_number d) (codes "accept") ∷ []
 told_lines stage.Counts d = front d d.groups ++ group_line (next_number d) (codes "open") ∷ []
 told_lines stage.Reject d = front d (extended d (Reject d.tree))
-told_lines (stage.Open o) d = front d (extended d (open_body o d.tree))
+told_lines (stage.Open o) d = front d (extended d (Open o d.tree))
 told_lines stage.Done d = front d d.groups ++ (codes "end" ∷ []) ∷ []
 
 -- the group that was begun has a number, and its line is known
@@ -83,7 +83,7 @@ Current stage.Told d = Fresh d
 Current stage.Witness d = Begun d × (d.tree ≡ [])
 Current stage.Counts d = Begun d × (d.tree ≡ [])
 Current stage.Reject d = Begun d × All NodeFits d.tree × All IsDecided d.tree
-Current (stage.Open o) d = Begun d × CountsFit o.level o.undecided o.spent × All NodeFits d.tree
+Current (stage.Open o) d = Begun d × CountsFit o × All NodeFits d.tree
 Current s d = d.tree ≡ []
 
 -- what a draft keeps whose next line is this one
@@ -186,7 +186,7 @@ witness_step line words d (Accept root at) is h =
     (append_assoc (front d d.groups) (group_line (next_number d) (codes "accept") ∷ []) (words ∷ []) ∙ (λ i. front d d.groups ++ group_line (next_number d) (codes "accept") ∷ h.0 i ∷ [])
     ∙ sym (front_last d (Accept root at)))
 witness_step line words d (Reject tree) is h = absurd h
-witness_step line words d (Open l u p r tree) is h = absurd h
+witness_step line words d (Open o tree) is h = absurd h
 
 pub counts_step : (line : ℕ) (words : List (List ℕ)) (d : Draft) (s : Stage) → IsDraft stage.Counts line d → IsCountsLine words s
     → Stepped line (told_lines stage.Counts d) words (at_stage s d)
@@ -194,7 +194,7 @@ counts_step line words d (stage.Open o) is h =
     let e = at_stage (stage.Open o) d in
     let none : map node_words d.tree ≡ [] = ap (map node_words) is.current.1 in
     let after : told_lines (stage.Open o) e ≡ told_lines stage.Counts d ++ words ∷ [] =
-    front_last e (open_body o d.tree) ∙ (λ i. front d d.groups ++ group_line (next_number d) (codes "open") ∷ sym h.0 i ∷ none i)
+    front_last e (Open o d.tree) ∙ (λ i. front d d.groups ++ group_line (next_number d) (codes "open") ∷ sym h.0 i ∷ none i)
     ∙ sym (append_assoc (front d d.groups) (group_line (next_number d) (codes "open") ∷ []) (words ∷ [])) in (
       after,
       record {
@@ -242,10 +242,10 @@ open_node : (line : ℕ) (o : Counts) (words : List (List ℕ)) (d : Draft) (nod
 open_node line o words d node is h =
     let e = node_draft d (stage.Open o) node in
     let group = group_line (next_number d) (codes "open") in
-    let counts = body_lines (open_body o d.tree) in
+    let counts = body_lines (Open o d.tree) in
     let after : told_lines (stage.Open o) e ≡ told_lines (stage.Open o) d ++ words ∷ [] =
-    front_last e (open_body o (d.tree ++ node ∷ [])) ∙ (λ i. front d d.groups ++ group ∷ counts_words o.level o.undecided o.spent o.reason ∷ more_words d.tree node words h.0 i)
-    ∙ sym (append_assoc (front d d.groups) (group ∷ counts) (words ∷ [])) ∙ (λ i. sym (front_last d (open_body o d.tree)) i ++ words ∷ []) in (
+    front_last e (Open o (d.tree ++ node ∷ [])) ∙ (λ i. front d d.groups ++ group ∷ counts_words o ∷ more_words d.tree node words h.0 i)
+    ∙ sym (append_assoc (front d d.groups) (group ∷ counts) (words ∷ [])) ∙ (λ i. sym (front_last d (Open o d.tree)) i ++ words ∷ []) in (
       after,
       record {
         bounds = is.bounds;
@@ -270,10 +270,10 @@ reject_step line words d e at is h = elim (chosen (ends_tree words) _ _ _ h) [
       subst (Stepped line (told_lines stage.Reject d) words) eq (reject_node line words d node is (node_found false words node found))
 ]
 
-pub open_step : (line : ℕ) (o : Counts) (words : List (List ℕ)) (d e : Draft) → d.stage ≡ stage.Open o → IsDraft (stage.Open o) line d → with_tree_line line words true (open_body o d.tree) d ≡ Ok e
+pub open_step : (line : ℕ) (o : Counts) (words : List (List ℕ)) (d e : Draft) → d.stage ≡ stage.Open o → IsDraft (stage.Open o) line d → with_tree_line line words true (Open o d.tree) d ≡ Ok e
     → Stepped line (told_lines (stage.Open o) d) words e
 open_step line o words d e at is h = elim (chosen (ends_tree words) _ _ _ h) [
-  | inl x ↦ group_step line words (with_tree_in (open_body o d.tree) d) e (closed (stage.Open o) line d (open_body o d.tree) is refl is.current.0 (is.current.1, is.current.2)) x.1
+  | inl x ↦ group_step line words (with_tree_in (Open o d.tree) d) e (closed (stage.Open o) line d (Open o d.tree) is refl is.current.0 (is.current.1, is.current.2)) x.1
   | inr x ↦
       let (node, found, made) = bind_ok (node_in true words) _ e x.1 in
       let eq : node_draft d (stage.Open o) node ≡ e = ap (λ s. node_draft d s node) (sym at) ∙ ok_same _ e made in

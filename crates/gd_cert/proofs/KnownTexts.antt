@@ -13,11 +13,11 @@ unfolding text digits
 rejected = refl
 
 -- an accept, and an open group of two undecided cells
-others : text (record { heading = Probe (codes "A/1#2") 25; share = 3; told = 2; groups = Accept 2 (pos 7 ∷ negsuc 4 ∷ []) ∷ Open 1 2 1 reason.Floor (Split ∷ Left ∷ Left ∷ []) ∷ [] })
+others : text (record { heading = Probe (codes "A/1#2") 25; share = 3; told = 2; groups = Accept 2 (pos 7 ∷ negsuc 4 ∷ []) ∷ Open (record { level = 1; undecided = 2; spent = 1; reason = reason.Floor }) (Split ∷ Left ∷ Left ∷ []) ∷ [] })
     ≡ codes "gdcert 1\nprobe A/1#2 25\nshare 3\ngroups 2\ngroup 1 accept\nw 2 7 -5\ngroup 2 open\nat 1 2 1 floor\ns\no\no\nend\n"
 unfolding text digits
 others = refl
 
 -- an accept has one line behind its first, an open group one and those of its tree
-places : first_lines 5 (Accept 2 (pos 7 ∷ negsuc 4 ∷ []) ∷ Open 1 2 1 reason.Floor (Split ∷ Left ∷ Left ∷ []) ∷ Reject (Split ∷ []) ∷ []) ≡ 5 ∷ 7 ∷ 12 ∷ []
+places : first_lines 5 (Accept 2 (pos 7 ∷ negsuc 4 ∷ []) ∷ Open (record { level = 1; undecided = 2; spent = 1; reason = reason.Floor }) (Split ∷ Left ∷ Left ∷ []) ∷ Reject (Split ∷ []) ∷ []) ≡ 5 ∷ 7 ∷ 12 ∷ []
 places = refl

@@ -7,6 +7,8 @@ use Rattle.std.specs.List.{All, list_all}
 use Rattle.std.proofs.lemmas.Bool.Decides.{nat_tests}
 use Rattle.std.proofs.lemmas.List.{length-map}
 use Rattle.std.proofs.lemmas.List.Elements.{All-cons, All-nil, All-tail}
+use Rattle.gd_cells.specs.Grid.{MOST_DIMS}
+use Rattle.gd_base.specs.declared.verdict.Counts.{Counts}
 use Rattle.gd_base.specs.declared.verdict.Reason.{Reason}
 use Rattle.gd_base.specs.declared.verdict.Reason.TheVariants as reason
 use Rattle.gd_cells.specs.declared.node.Node.{Node}
@@ -15,7 +17,7 @@ use Rattle.gd_cert.proofs.Numbers.{below_again, below_spelled, both, signed_agai
 use Rattle.gd_cert.specs.Bounds.{CountsFit, HeadingFits, IsDecided, IsRequirement, NodeFits, WitnessFits, is_requirement_byte}
 use Rattle.gd_cert.specs.Certificates.{Body, Accept, Heading, Plain, Probe}
 use Rattle.gd_cert.specs.Lines.{begun_by, counts_in, counts_of, end_in, evidence_in, group_in, heading_in, level_in, lone, node_in, number_and_verdict_in, place_in, reason_in, share_in, sized_in, title_in, told_in, verdict_in, witness_in}
-use Rattle.gd_cert.specs.Text.{heading_words, node_words, reason_word, title}
+use Rattle.gd_cert.specs.Text.{heading_words, node_words, reason_word, title, counts_words}
 use Rattle.gd_cert.specs.Words.{and_then_read, is_requirement, is_word, number_below, number_of, onto, or_rule, signed_number, signed_numbers}
 use Rattle.gd_cert.specs.declared.rule.Rule.{Rule}
 use Rattle.gd_cert.specs.declared.rule.Rule.TheVariants as rule
@@ -216,15 +218,15 @@ IsWitness words body = ⊥
 place_found : (ws : List (List ℕ)) (body : Body) → place_in ws ≡ Ok body → IsWitness (codes "w" ∷ ws) body
 place_found [] body h = cc h
 place_found (root ∷ at) body h =
-    let (counts, numbers) = passed (nat_le 2 (length at) && nat_le (length at) 12) _ _ body h in
-    let (low, high) = both (nat_le 2 (length at)) (nat_le (length at) 12) counts in
+    let (counts, numbers) = passed (nat_le 2 (length at) && nat_le (length at) MOST_DIMS) _ _ body h in
+    let (low, high) = both (nat_le 2 (length at)) (nat_le (length at) MOST_DIMS) counts in
     let (r, first, others) = bind_ok _ _ body numbers in
     let (xs, all, made) = bind_ok _ _ body others in
     let (numeral, lt) = spelled 4294967296 root rule.Number r first in
     let (words, sizes) = signed_found at xs (or_ok (signed_numbers at) rule.Number xs all) in
     let many : length xs ≡ length at = sym (ap length words ∙ length-map xs signed_decimal) in
     let some : 2 ≤ length at = grind (arith, nat_tests) in
-    let few : length at ≤ 12 = grind (arith, nat_tests) in
+    let few : length at ≤ MOST_DIMS = grind (arith, nat_tests) in
     subst (IsWitness (codes "w" ∷ root ∷ at)) (ok_same _ _ made)
     ((λ i. codes "w" ∷ numeral i ∷ words i), record { root_fits = omega (arith, lt); some = omega arith; few = omega arith; sizes = sizes })
 
@@ -236,16 +238,13 @@ pub witness_again : (root : ℕ) (at : List ℤ) → WitnessFits root at → wit
 witness_again root at fits =
     let many : length (map signed_decimal at) ≡ length at = length-map at signed_decimal in
     let low : nat_le 2 (length (map signed_decimal at)) ≡ true = rw many (grind (arith, nat_tests, fits.some)) in
-    let high : nat_le (length (map signed_decimal at)) 12 ≡ true = rw many (grind (arith, nat_tests, fits.few)) in
+    let high : nat_le (length (map signed_decimal at)) MOST_DIMS ≡ true = rw many (grind (arith, nat_tests, fits.few)) in
     rw (low, high, below_again 4294967296 root (omega arith) (omega (arith, fits.root_fits)), signed_all_again at fits.sizes) refl
 
 -- ---- the counts of an open group
 
-abbrev pub counts_words : ℕ → ℕ → ℕ → Reason → List (List ℕ)
-counts_words level undecided spent why = codes "at" ∷ decimal level ∷ decimal undecided ∷ decimal spent ∷ reason_word why ∷ []
-
 abbrev pub IsCountsLine : List (List ℕ) → Stage → Type 0
-IsCountsLine words (stage.Open o) = (words ≡ counts_words o.level o.undecided o.spent o.reason) × CountsFit o.level o.undecided o.spent
+IsCountsLine words (stage.Open o) = (words ≡ counts_words o) × CountsFit o
 IsCountsLine words s = ⊥
 
 reason_found : (w : List ℕ) (r : Reason) → reason_in w ≡ Some r → w ≡ reason_word r
@@ -283,13 +282,13 @@ reason_again : (r : Reason) → reason_in (reason_word r) ≡ Some r
 reason_again reason.Budget = refl
 reason_again reason.Floor = refl
 
-pub counts_again : (level undecided spent : ℕ) (why : Reason) → CountsFit level undecided spent → counts_in (counts_words level undecided spent why) ≡ Ok (stage.Open (counts_of level undecided spent why))
-counts_again level undecided spent why fits =
+pub counts_again : (c : Counts) → CountsFit c → counts_in (counts_words c) ≡ Ok (stage.Open c)
+counts_again c fits =
     rw (
-      reason_again why,
-      below_again 4294967296 level (omega arith) (omega (arith, fits.level_fits)),
-      below_again 4294967296 undecided (omega arith) (omega (arith, fits.undecided_fits)),
-      below_again 4294967296 spent (omega arith) (omega (arith, fits.spent_fits)),
+      reason_again c.reason,
+      below_again 4294967296 c.level (omega arith) (omega (arith, fits.level_fits)),
+      below_again 4294967296 c.undecided (omega arith) (omega (arith, fits.undecided_fits)),
+      below_again 4294967296 c.spent (omega arith) (omega (arith, fits.spent_fits)),
     ) refl
 
 -- ---- a line of a tree

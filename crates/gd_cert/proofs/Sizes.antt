@@ -8,6 +8,7 @@ use Rattle.std.proofs.lemmas.List.Elements.{All-cons, All-head, All-nil, All-tai
 use Rattle.std.proofs.lemmas.List.Concat.{flat_map-append}
 use Rattle.std.proofs.lemmas.List.Sums.{sum_by-cons}
 use Rattle.std.proofs.lemmas.Option.{same_Some}
+use Rattle.gd_base.specs.declared.verdict.Counts.{Counts}
 use Rattle.gd_base.specs.declared.verdict.Reason.{Reason}
 use Rattle.gd_base.specs.declared.verdict.Reason.TheVariants as reason
 use Rattle.gd_cells.specs.declared.node.Node.{Node}
@@ -15,7 +16,7 @@ use Rattle.gd_cells.specs.declared.node.Node.TheVariants.{Split, Refuted, Left}
 use Rattle.gd_cert.specs.Bounds.{BodyFits, CountsFit, HeadingFits, NodeFits, WitnessFits}
 use Rattle.gd_cert.specs.Certificates.{Body, Accept, Reject, Open, Certificate, Heading, Plain, Probe, body_of, certificate_of}
 use Rattle.gd_cert.specs.Sizes.{GroupsLieWithin, KeptLinesLieWithin, LinesAreFew, OneGroupIsShort, TextsAreShort, most_bytes, tree_of}
-use Rattle.gd_cert.specs.Text.{body_lines, first_lines, groups_lines, heading_words, line_text, lines, node_words, reason_word, spaced, text, verdict_word}
+use Rattle.gd_cert.specs.Text.{body_lines, first_lines, groups_lines, heading_words, line_text, lines, node_words, reason_word, spaced, text, verdict_word, counts_words}
 use Rattle.gd_cert.specs.declared.cert.CertGroup.{CertGroup}
 use Rattle.gd_cert.proofs.Writing.{whole_text}
 
@@ -62,33 +63,33 @@ reason_size : (why : Reason) → length (reason_word why) ≤ 6
 reason_size reason.Budget = omega arith
 reason_size reason.Floor = omega arith
 
-stop_size : (level undecided spent : ℕ) (why : Reason) → CountsFit level undecided spent → length (line_text (codes "at" ∷ decimal level ∷ decimal undecided ∷ decimal spent ∷ reason_word why ∷ [])) ≤ 43
-stop_size level undecided spent why h =
+counts_size : (c : Counts) → CountsFit c → length (line_text (counts_words c)) ≤ 43
+counts_size c h =
     omega (
       arith,
-      line_size (codes "at") (decimal level ∷ decimal undecided ∷ decimal spent ∷ reason_word why ∷ []),
-      number_size level h.level_fits,
-      number_size undecided h.undecided_fits,
-      number_size spent h.spent_fits,
-      reason_size why,
+      line_size (codes "at") (decimal c.level ∷ decimal c.undecided ∷ decimal c.spent ∷ reason_word c.reason ∷ []),
+      number_size c.level h.level_fits,
+      number_size c.undecided h.undecided_fits,
+      number_size c.spent h.spent_fits,
+      reason_size c.reason,
     )
 
 body_size : (body : Body) → BodyFits body → length (flat_map line_text (body_lines body)) ≤ 265 + 35 * length (tree_of body)
 body_size (Accept root at) h =
     omega (arith, length-append (line_text (codes "w" ∷ decimal root ∷ map signed_decimal at)) [], witness_size root at h)
 body_size (Reject tree) h = omega (arith, tree_size tree h.0)
-body_size (Open level undecided spent why tree) h =
+body_size (Open counts tree) h =
     omega (
       arith,
-      length-append (line_text (codes "at" ∷ decimal level ∷ decimal undecided ∷ decimal spent ∷ reason_word why ∷ [])) (flat_map line_text (map node_words tree)),
-      stop_size level undecided spent why h.0,
+      length-append (line_text (counts_words counts)) (flat_map line_text (map node_words tree)),
+      counts_size counts h.0,
       tree_size tree h.1,
     )
 
 verdict_size : (body : Body) → length (verdict_word body) ≤ 6
 verdict_size (Accept root at) = omega arith
 verdict_size (Reject tree) = omega arith
-verdict_size (Open level undecided spent why tree) = omega arith
+verdict_size (Open counts tree) = omega arith
 
 first_size : (number : ℕ) (body : Body) → number < 2 ^ 32 → length (line_text (codes "group" ∷ decimal number ∷ verdict_word body ∷ [])) ≤ 24
 first_size number body h =

@@ -10,17 +10,18 @@ use Rattle.std.proofs.lemmas.List.Elements.{All-append, All-cons, All-from_get_o
 use Rattle.std.proofs.lemmas.List.Splits.{slice_split_at, slice_split_none}
 use Rattle.std.proofs.lemmas.List.Sums.{AllPass-from_list_all, list_all-from_AllPass}
 use Rattle.std.proofs.lemmas.Str.Parse.{not_in_digits}
+use Rattle.gd_base.specs.declared.verdict.Counts.{Counts}
 use Rattle.gd_base.specs.declared.verdict.Reason.{Reason}
 use Rattle.gd_base.specs.declared.verdict.Reason.TheVariants as reason
 use Rattle.gd_cells.specs.declared.node.Node.{Node}
 use Rattle.gd_cells.specs.declared.node.Node.TheVariants.{Split, Refuted, Left}
-use Rattle.gd_cert.proofs.Lines.{counts_words, group_line, witness_words}
+use Rattle.gd_cert.proofs.Lines.{group_line, witness_words}
 use Rattle.gd_cert.proofs.Numbers.{own}
 use Rattle.gd_cert.proofs.Steps.{took}
 use Rattle.gd_cert.specs.Bounds.{CountsFit, HeadingFits, NodeFits, WitnessFits, is_requirement_byte}
 use Rattle.gd_cert.specs.Certificates.{Heading, Plain, Probe}
 use Rattle.gd_cert.specs.Reading.{Draft, drafted_from, on_line, with_line}
-use Rattle.gd_cert.specs.Text.{heading_words, line_text, node_words, reason_word, spaced, title}
+use Rattle.gd_cert.specs.Text.{heading_words, line_text, node_words, reason_word, spaced, title, counts_words}
 use Rattle.gd_cert.specs.Words.{pieces, words_of}
 
 -- each byte is above a space, so the word has no separator
@@ -118,9 +119,9 @@ reason_clean : (r : Reason) → Clean (reason_word r)
 reason_clean reason.Budget = refl
 reason_clean reason.Floor = refl
 
-pub counts_line : (level undecided spent : ℕ) (why : Reason) → CountsFit level undecided spent → IsLine (counts_words level undecided spent why)
-counts_line level undecided spent why fits =
-    (omega arith, (refl, (decimal_clean level (omega (arith, fits.level_fits)), (decimal_clean undecided (omega (arith, fits.undecided_fits)), (decimal_clean spent (omega (arith, fits.spent_fits)), (reason_clean why, tt))))))
+pub counts_line : (c : Counts) → CountsFit c → IsLine (counts_words c)
+counts_line c fits =
+    (omega arith, (refl, (decimal_clean c.level (omega (arith, fits.level_fits)), (decimal_clean c.undecided (omega (arith, fits.undecided_fits)), (decimal_clean c.spent (omega (arith, fits.spent_fits)), (reason_clean c.reason, tt))))))
 
 pub node_line : (node : Node) → NodeFits node → IsLine (node_words node)
 node_line Split fits = (omega arith, (refl, tt))

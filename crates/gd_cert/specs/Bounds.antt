@@ -1,6 +1,8 @@
 -- The ranges of a certificate's numbers, counts and name.
 use Rattle.std.specs.Prelude.{ℕ, ℤ, ◌^◌, ◌≡◌, ◌≤◌, ◌<◌, Bool, true, ◌==◌, ◌||◌, List, length, unsigned_abs}
 use Rattle.std.specs.List.{All, list_all}
+use Rattle.gd_cells.specs.Grid.{MOST_DIMS}
+use Rattle.gd_base.specs.declared.verdict.Counts.{Counts}
 use Rattle.gd_base.specs.Names.{is_name_byte}
 use Rattle.gd_cells.specs.Laws.{IsShort}
 use Rattle.gd_cells.specs.declared.node.Node.{Node}
@@ -33,24 +35,24 @@ IsDecided Split = Unit {0}
 IsDecided (Refuted e) = Unit {0}
 IsDecided Left = ⊥
 
--- a witness has a root below 2^32 and 2 to 12 numbers below 2^62 in size
+-- a witness has a root below 2^32, and 2 to MOST_DIMS numbers below 2^62 in size
 pub record WitnessFits (root : ℕ) (at : List ℤ) : Type 0 where
   pub root_fits : root < 2 ^ 32
   pub some : 2 ≤ length at
-  pub few : length at ≤ 12
+  pub few : length at ≤ MOST_DIMS
   pub sizes : All (λ x. unsigned_abs x < 2 ^ 62) at
 
 -- the counts of an open group are below 2^32
-pub record CountsFit (level undecided spent : ℕ) : Type 0 where
-  pub level_fits : level < 2 ^ 32
-  pub undecided_fits : undecided < 2 ^ 32
-  pub spent_fits : spent < 2 ^ 32
+pub record CountsFit (c : Counts) : Type 0 where
+  pub level_fits : c.level < 2 ^ 32
+  pub undecided_fits : c.undecided < 2 ^ 32
+  pub spent_fits : c.spent < 2 ^ 32
 
 -- the tree of a reject has no undecided cell
 abbrev pub BodyFits : Body → Type 0
 BodyFits (Accept root at) = WitnessFits root at
 BodyFits (Reject tree) = All NodeFits tree × All IsDecided tree
-BodyFits (Open level undecided spent why tree) = CountsFit level undecided spent × All NodeFits tree
+BodyFits (Open counts tree) = CountsFit counts × All NodeFits tree
 
 pub record IsInBounds (c : Certificate) : Type 0 where
   pub heading : HeadingFits c.heading

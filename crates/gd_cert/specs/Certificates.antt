@@ -1,6 +1,7 @@
--- A certificate without where it lies in memory: what its verdicts are for, the budget of each group, how many groups it tells of, and the groups.
+-- A certificate without where it lies in memory: what its verdicts are for, the budget of each group, how many groups it
+-- states, and the groups.
 use Rattle.std.specs.Prelude.{ℕ, ℤ, List, map}
-use Rattle.gd_base.specs.declared.verdict.Reason.{Reason}
+use Rattle.gd_base.specs.declared.verdict.Counts.{Counts}
 use Rattle.gd_cells.specs.declared.node.Node.{Node}
 use Rattle.gd_cert.specs.declared.cert.Cert.{Cert}
 use Rattle.gd_cert.specs.declared.cert.CertBody.{CertBody}
@@ -14,11 +15,11 @@ pub data Heading : Type 0 where
   Plain : Heading
   Probe : List ℕ → ℕ → Heading
 
--- a witness by its root and its numbers; a tree; or a level, its undecided cells, those that were split before, why the search stopped, and the tree
+-- a witness by its root and its numbers; a tree; or where the search stopped, and the tree
 pub data Body : Type 0 where
   Accept : ℕ → List ℤ → Body
   Reject : List Node → Body
-  Open : ℕ → ℕ → ℕ → Reason → List Node → Body
+  Open : Counts → List Node → Body
 
 pub record Certificate : Type 0 where
   pub heading : Heading
@@ -34,7 +35,7 @@ heading_of (head.Probe name tolerance) = Probe name tolerance
 abbrev pub body_of : CertBody → Body
 body_of (body.Accept root at) = Accept root at.items
 body_of (body.Reject tree) = Reject tree.items
-body_of (body.StillOpen level undecided spent why tree) = Open level undecided spent why tree.items
+body_of (body.StillOpen counts tree) = Open counts tree.items
 
 abbrev pub certificate_of : Cert → Certificate
 certificate_of c =

@@ -1,15 +1,16 @@
 -- What one line of a certificate tells, by its words. In a line the tests have this order: its kind and its number (42), its words (44), and how numbers are spelled (43).
 use Rattle.std.specs.Prelude.{ℕ, Bool, false, List, [], ◌∷◌, Option, Some, None, Result, Ok, Err, length, nat_le, ◌==◌, ◌&&◌, ◌||◌, if◌then◌else◌, codes}
+use Rattle.gd_cells.specs.Grid.{MOST_DIMS}
 use Rattle.gd_base.specs.declared.verdict.Reason.{Reason}
 use Rattle.gd_base.specs.declared.verdict.Reason.TheVariants as reason
 use Rattle.gd_cells.specs.declared.node.Node.{Node}
 use Rattle.gd_cells.specs.declared.node.Node.TheVariants.{Split, Refuted, Left}
-use Rattle.gd_cert.specs.Certificates.{Body, Accept, Open, Heading, Plain, Probe}
+use Rattle.gd_cert.specs.Certificates.{Body, Accept, Heading, Plain, Probe}
 use Rattle.gd_cert.specs.Text.{format, version}
 use Rattle.gd_cert.specs.Words.{and_then_read, is_requirement, is_word, number_below, number_of, or_rule, signed_numbers}
 use Rattle.gd_cert.specs.declared.rule.Rule.{Rule}
 use Rattle.gd_cert.specs.declared.rule.Rule.TheVariants as rule
-use Rattle.gd_cert.specs.declared.stage.Counts.{Counts}
+use Rattle.gd_base.specs.declared.verdict.Counts.{Counts}
 use Rattle.gd_cert.specs.declared.stage.Stage.{Stage}
 use Rattle.gd_cert.specs.declared.stage.Stage.TheVariants as stage
 
@@ -76,11 +77,11 @@ group_in next (word ∷ words) =
     else if is_word word (codes "end") then end_in words
     else Err rule.Expected
 
--- a root, and from 2 to 12 numbers
+-- a root, and from 2 to MOST_DIMS numbers
 abbrev pub place_in : List (List ℕ) → Result Body Rule
 place_in [] = Err rule.Words
 place_in (root ∷ at) =
-    if nat_le 2 (length at) && nat_le (length at) 12
+    if nat_le 2 (length at) && nat_le (length at) MOST_DIMS
     then and_then_read (or_rule (number_of root) rule.Number) (λ r. and_then_read (or_rule (signed_numbers at) rule.Number) (λ xs. Ok (Accept r xs)))
     else Err rule.Words
 
@@ -131,9 +132,6 @@ node_in undecided (word ∷ words) =
     else if is_word word (codes "s") then lone Split words
     else if is_word word (codes "o") && undecided then lone Left words
     else Err rule.Words
-
-abbrev pub open_body : Counts → List Node → Body
-open_body counts tree = Open counts.level counts.undecided counts.spent counts.reason tree
 
 -- such a line ends a tree
 abbrev pub ends_tree : List (List ℕ) → Bool

@@ -1,8 +1,8 @@
 -- The certificate that bytes spell, or their first fault: line by line, and in a line by the order of its tests.
 use Rattle.std.specs.Prelude.{ℕ, ◌+◌, ◌≡◌, Bool, true, false, List, [], ◌∷◌, ◌++◌, Option, Some, None, Result, Ok, Err, length, map, if◌then◌else◌}
 use Rattle.gd_cells.specs.declared.node.Node.{Node}
-use Rattle.gd_cert.specs.Certificates.{Body, Reject, Certificate, Heading, Plain}
-use Rattle.gd_cert.specs.Lines.{counts_in, ends_tree, group_in, heading_in, node_in, open_body, share_in, title_in, told_in, witness_in}
+use Rattle.gd_cert.specs.Certificates.{Body, Reject, Certificate, Heading, Plain, Open}
+use Rattle.gd_cert.specs.Lines.{counts_in, ends_tree, group_in, heading_in, node_in, share_in, title_in, told_in, witness_in}
 use Rattle.gd_cert.specs.Rules.{code_of}
 use Rattle.gd_cert.specs.Words.{and_then_read, pieces, words_of}
 use Rattle.gd_cert.specs.declared.fault.CertFault.{CertFault}
@@ -111,7 +111,7 @@ with_line_at stage.Group line words d = with_group line words d
 with_line_at stage.Witness line words d = with_witness words d
 with_line_at stage.Counts line words d = with_counts words d
 with_line_at stage.Reject line words d = with_tree_line line words false (Reject d.tree) d
-with_line_at (stage.Open counts) line words d = with_tree_line line words true (open_body counts d.tree) d
+with_line_at (stage.Open counts) line words d = with_tree_line line words true (Open counts d.tree) d
 with_line_at stage.Done line words d = Err rule.Behind
 
 -- what the lines tell with one more, of which these are the words

@@ -12,7 +12,7 @@ use Rattle.gd_cert.specs.declared.cert.CertGroup.{CertGroup}
 abbrev pub tree_of : Body → List Node
 tree_of (Accept root at) = []
 tree_of (Reject tree) = tree
-tree_of (Open level undecided spent why tree) = tree
+tree_of (Open counts tree) = tree
 
 -- no more bytes than these tell of a group
 abbrev pub most_bytes : Body → ℕ

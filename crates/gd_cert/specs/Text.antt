@@ -2,6 +2,7 @@
 use Rattle.std.specs.Prelude.{ℕ, ◌+◌, ◌≡◌, List, [], ◌∷◌, ◌++◌, codes, decimal, length, map}
 use Rattle.std.specs.Fmt.{signed_decimal}
 use Rattle.std.specs.List.{flat_map}
+use Rattle.gd_base.specs.declared.verdict.Counts.{Counts}
 use Rattle.gd_base.specs.declared.verdict.Reason.{Reason}
 use Rattle.gd_base.specs.declared.verdict.Reason.TheVariants as reason
 use Rattle.gd_cells.specs.declared.node.Node.{Node}
@@ -44,16 +45,20 @@ abbrev pub reason_word : Reason → List ℕ
 reason_word reason.Budget = codes "budget"
 reason_word reason.Floor = codes "floor"
 
+-- the line of where a search stopped, and why
+abbrev pub counts_words : Counts → List (List ℕ)
+counts_words c = codes "at" ∷ decimal c.level ∷ decimal c.undecided ∷ decimal c.spent ∷ reason_word c.reason ∷ []
+
 -- the lines of a group after its first
 abbrev pub body_lines : Body → List (List (List ℕ))
 body_lines (Accept root at) = (codes "w" ∷ decimal root ∷ map signed_decimal at) ∷ []
 body_lines (Reject tree) = map node_words tree
-body_lines (Open level undecided spent why tree) = (codes "at" ∷ decimal level ∷ decimal undecided ∷ decimal spent ∷ reason_word why ∷ []) ∷ map node_words tree
+body_lines (Open counts tree) = counts_words counts ∷ map node_words tree
 
 abbrev pub verdict_word : Body → List ℕ
 verdict_word (Accept root at) = codes "accept"
 verdict_word (Reject tree) = codes "reject"
-verdict_word (Open level undecided spent why tree) = codes "open"
+verdict_word (Open counts tree) = codes "open"
 
 -- the lines of the groups, of which the first has this number
 abbrev pub groups_lines : ℕ → List Body → List (List (List ℕ))

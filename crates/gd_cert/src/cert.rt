@@ -1,5 +1,5 @@
 // A certificate: what was found of each group of requirements, so that it can be decided anew.
-use gd_base::{Name2, Reason};
+use gd_base::{Counts, Name2};
 use gd_cells::Node;
 
 /// What the verdicts of a certificate are for.
@@ -17,22 +17,11 @@ pub enum Head {
 #[derive(Debug, Drop)]
 pub enum CertBody {
     /// A witness: a root from 1, and its numbers, ratios in 2^-30 and lengths in fine units of 2^-16.
-    Accept {
-        root: u32,
-        at: Vec<i64>,
-    },
+    Accept { root: u32, at: Vec<i64> },
     /// A tree whose leaves are refuted. It has no undecided cell.
-    Reject {
-        tree: Vec<Node>,
-    },
-    /// The tree down to a level: so many cells are undecided there, and so many were split before.
-    StillOpen {
-        level: u32,
-        undecided: u32,
-        spent: u32,
-        reason: Reason,
-        tree: Vec<Node>,
-    },
+    Reject { tree: Vec<Node> },
+    /// Where the search stopped, and the tree down to that level.
+    StillOpen { counts: Counts, tree: Vec<Node> },
 }
 
 /// A group of a certificate, and the line, from 1, on which its text begins.

@@ -1,8 +1,7 @@
 // A certificate as far as its lines were read.
 ghost use Rattle.std.specs.Prelude.{◌≡◌, OnOk, false, true, map};
-ghost use Rattle.gd_cert.specs.Certificates.{Reject, body_of, certificate_of};
+ghost use Rattle.gd_cert.specs.Certificates.{Reject, body_of, certificate_of, Open};
 ghost use Rattle.gd_cert.specs.Drafts.{Takes, draft_of, texts};
-ghost use Rattle.gd_cert.specs.Lines.{open_body};
 ghost use Rattle.gd_cert.specs.Reading.{certificate_in, empty_draft, last_fault, lines_of, with_body, with_counts, with_group, with_heading, with_line, with_node, with_share, with_title, with_told, with_tree_line, with_witness, without_tree};
 ghost use Rattle.gd_cert.specs.declared.cert.CertGroup.{CertGroup};
 
@@ -12,9 +11,9 @@ use crate::line::{
     read_witness,
 };
 use crate::rule::{LineFault, Rule};
-use crate::stage::{Counts, Stage};
+use crate::stage::Stage;
 use crate::title::is_title;
-use gd_base::Memory;
+use gd_base::{Counts, Memory};
 use gd_cells::Node;
 use std::alloc::Global;
 use std::mem;
@@ -150,19 +149,13 @@ impl CertDraft {
         words: &[&[u8]],
         counts: Counts,
     ) -> Result<(), LineFault>
-        ensures { Takes (draft_of self.new) result (with_tree_line line (texts words.now) true (open_body counts self.old.tree.items) (draft_of self.old)) }
+        ensures { Takes (draft_of self.new) result (with_tree_line line (texts words.now) true (Open counts self.old.tree.items) (draft_of self.old)) }
     {
         if !is_behind_tree(words) {
             return self.take_node(true, words);
         }
         let tree = self.whole_tree(alloc);
-        let body = CertBody::StillOpen {
-            level: counts.level,
-            undecided: counts.undecided,
-            spent: counts.spent,
-            reason: counts.reason,
-            tree,
-        };
+        let body = CertBody::StillOpen { counts, tree };
         self.take_behind(body, line, words)
     }
 

@@ -10,11 +10,11 @@ ghost use Rattle.gd_cert.specs.Words.{is_requirement, is_word};
 use crate::cert::{CertBody, Head};
 use crate::number::{read_below, read_number, read_signed_all};
 use crate::rule::{LineFault, Rule};
-use crate::stage::{Counts, Stage};
+use crate::stage::Stage;
 use crate::word::is;
 use gd_base::limits::{BUDGET, GROUPS, REQUIREMENT_BYTES, TOLERANCE};
-use gd_base::{Name2, Reason};
-use gd_cells::{Evidence, Node};
+use gd_base::{Counts, Name2, Reason};
+use gd_cells::{Evidence, MOST_DIMS, Node};
 use std::alloc::Global;
 use std::str;
 
@@ -176,7 +176,7 @@ fn read_verdict(words: &[&[u8]]) -> Option<Stage>
     }
 }
 
-/// `w R n n ..`, with 2 to 12 numbers behind the root.
+/// `w R n n ..`, with 2 to MOST_DIMS numbers after the root.
 pub(crate) fn read_witness(alloc: Global, words: &[&[u8]]) -> Result<CertBody, LineFault>
     ensures { Answers body_of result (witness_in (texts words.now)) }
 {
@@ -198,7 +198,7 @@ fn read_place(alloc: Global, words: &[&[u8]]) -> Result<CertBody, LineFault>
     let [root, at @ ..] = words else {
         return Err(LineFault::Rule(Rule::Words));
     };
-    if at.len() < 2 || 12 < at.len() {
+    if at.len() < 2 || MOST_DIMS < at.len() {
         return Err(LineFault::Rule(Rule::Words));
     }
     let Some(root) = read_number(root) else {

@@ -193,15 +193,9 @@ group 4 reject\nend\n";
         _ => assert!(rt; false, "a reject"),
     }
     match &cert.groups[2].body {
-        CertBody::StillOpen {
-            level,
-            undecided,
-            spent,
-            reason,
-            tree,
-        } => {
+        CertBody::StillOpen { counts, tree } => {
             assert_eq!(rt;
-                (*level, *undecided, *spent, *reason),
+                (counts.level, counts.undecided, counts.spent, counts.reason),
                 (1, 2, 3, Reason::Floor)
             );
             assert_eq!(rt;

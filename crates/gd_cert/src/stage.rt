@@ -1,14 +1,5 @@
 // Which line of a certificate comes next.
-use gd_base::Reason;
-
-/// What the line `at` of an open group tells: a level, its undecided cells, those that were split before, and why the search stopped.
-#[derive(Clone, Copy, Debug)]
-pub(crate) struct Counts {
-    pub(crate) level: u32,
-    pub(crate) undecided: u32,
-    pub(crate) spent: u32,
-    pub(crate) reason: Reason,
-}
+use gd_base::Counts;
 
 /// Which line comes next.
 #[derive(Clone, Copy, Debug)]

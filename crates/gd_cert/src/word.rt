@@ -5,9 +5,10 @@ ghost use Rattle.gd_cert.specs.Drafts.{CutsAt, TellsAlike, texts};
 ghost use Rattle.gd_cert.specs.Words.{is_word, words_of};
 
 use gd_base::Memory;
+use gd_cells::MOST_DIMS;
 
-// The most words of a line: `w`, a root and 12 numbers.
-const MOST_WORDS: usize = 14;
+// The most words of a line: `w`, a root and the numbers of a witness.
+const MOST_WORDS: usize = 2 + MOST_DIMS;
 
 /// Whether a word is this one.
 pub(crate) fn is(word: &[u8], other: &[u8]) -> bool

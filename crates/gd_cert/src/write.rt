@@ -3,12 +3,12 @@ ghost use Rattle.std.specs.Prelude.{◌≡◌, ◌<◌, ◌^◌, ◌+◌, ◌∷
 ghost use Rattle.std.specs.Fmt.{signed_decimal};
 ghost use Rattle.std.specs.List.{flat_map};
 ghost use Rattle.gd_cert.specs.Certificates.{body_of, certificate_of, heading_of};
-ghost use Rattle.gd_cert.specs.Text.{body_lines, groups_lines, heading_words, line_text, node_words, reason_word, text, verdict_word};
+ghost use Rattle.gd_cert.specs.Text.{body_lines, groups_lines, heading_words, line_text, node_words, text, verdict_word, counts_words};
 ghost use Rattle.gd_cert.specs.declared.cert.CertGroup.{CertGroup};
 
 use crate::cert::{Cert, CertBody, CertGroup, Head};
 use crate::title::put_title;
-use gd_base::{Memory, Reason};
+use gd_base::{Counts, Memory, Reason};
 use gd_cells::Node;
 use itoa::{Buffer, Integer};
 use std::alloc::Global;
@@ -100,20 +100,14 @@ fn put_witness(text: &mut Vec<u8>, root: u32, at: &[i64]) -> Result<(), Memory>
 }
 
 // The line of where a search stopped, and why.
-fn put_stop(
-    text: &mut Vec<u8>,
-    level: u32,
-    undecided: u32,
-    spent: u32,
-    reason: &Reason,
-) -> Result<(), Memory>
-    ensures { OnOk result (text.new.items ≡ text.old.items ++ line_text (codes "at" ∷ decimal level ∷ decimal undecided ∷ decimal spent ∷ reason_word reason.now ∷ [])) }
+fn put_counts(text: &mut Vec<u8>, counts: Counts) -> Result<(), Memory>
+    ensures { OnOk result (text.new.items ≡ text.old.items ++ line_text (counts_words counts)) }
 {
     text.extend_from_slice(b"at")?;
-    put_number(text, level)?;
-    put_number(text, undecided)?;
-    put_number(text, spent)?;
-    match reason {
+    put_number(text, counts.level)?;
+    put_number(text, counts.undecided)?;
+    put_number(text, counts.spent)?;
+    match counts.reason {
         Reason::Budget => text.extend_from_slice(b" budget\n")?,
         Reason::Floor => text.extend_from_slice(b" floor\n")?,
     }
@@ -141,14 +135,8 @@ fn put_body(text: &mut Vec<u8>, body: &CertBody) -> Result<(), Memory>
     match body {
         CertBody::Accept { root, at } => put_witness(text, *root, at),
         CertBody::Reject { tree } => put_tree(text, tree),
-        CertBody::StillOpen {
-            level,
-            undecided,
-            spent,
-            reason,
-            tree,
-        } => {
-            put_stop(text, *level, *undecided, *spent, reason)?;
+        CertBody::StillOpen { counts, tree } => {
+            put_counts(text, *counts)?;
             put_tree(text, tree)
         }
     }
@@ -183,9 +171,18 @@ pub fn write_cert(alloc: Global, cert: &Cert) -> Result<Vec<u8>, Memory>
 mod tests {
     use super::write_cert;
     use crate::cert::{Cert, CertBody, CertGroup, Head};
-    use gd_base::{Memory, Name2, Reason};
+    use gd_base::{Counts, Memory, Name2, Reason};
     use gd_cells::{Evidence, Node};
     use std::alloc::Global;
+
+    fn counts(level: u32, undecided: u32, spent: u32, reason: Reason) -> Counts {
+        Counts {
+            level,
+            undecided,
+            spent,
+            reason,
+        }
+    }
 
     // A certificate with each kind of line.
     fn each_line(alloc: Global) -> Result<Cert, Memory> {
@@ -199,17 +196,11 @@ mod tests {
             },
             CertBody::Reject { tree: refuted },
             CertBody::StillOpen {
-                level: 1,
-                undecided: 2,
-                spent: 10,
-                reason: Reason::Floor,
+                counts: counts(1, 2, 10, Reason::Floor),
                 tree: floor
             },
             CertBody::StillOpen {
-                level: 0,
-                undecided: 1,
-                spent: 9,
-                reason: Reason::Budget,
+                counts: counts(0, 1, 9, Reason::Budget),
                 tree: vec![in alloc; Node::Left]?
             },
         ]?;

@@ -1,6 +1,5 @@
 pub mod Waiting
 pub mod Walk
-pub mod Below
 pub mod Ends
 pub mod Opened
 pub mod Written

@@ -5,10 +5,10 @@ use Rattle.std.proofs.lemmas.List.{length-reverse, reverse-append}
 use Rattle.std.proofs.lemmas.List.Elements.{All-push}
 use Rattle.std.specs.List.{All}
 use Rattle.gd_cells.proofs.Cells.{level_at, root_is_cell}
-use Rattle.gd_cells.specs.Grid.{count_from}
+use Rattle.gd_cells.specs.Grid.{IsCell, count_from}
 use Rattle.gd_cells.specs.Halves.{whole_root}
 use Rattle.gd_cells.specs.Laws.{IsGrid}
-use Rattle.gd_cells.specs.Meaning.{IsCell, Questions}
+use Rattle.gd_cells.specs.Meaning.{Questions}
 use Rattle.gd_cells.specs.declared.cell.Cell.{Cell}
 use Rattle.gd_cells.specs.declared.node.Node.{Node}
 use Rattle.gd_cells.specs.declared.node.Node.TheVariants.{Split}
@@ -16,12 +16,12 @@ use Rattle.gd_cert.specs.Reading.{fault}
 use Rattle.gd_check.specs.Wrong.{Kind, is_wrong_split, line_code, waiting_after, wrong_line}
 
 -- a cell lies no deeper than the last level, and above it where it may be halved
-pub low_cell : (q : Questions) (c : Cell) → IsCell q c → c.level ≤ q.finest
-low_cell q c cell = omega (arith, ap (λ (d : Cell). d.level) cell.same ∙ level_at q.steps q.dims cell.root cell.level cell.path, cell.deepest)
+pub low_cell : (q : Questions) (c : Cell) → IsCell q.grid c → c.level ≤ q.grid.finest
+low_cell q c cell = omega (arith, ap (λ (d : Cell). d.level) cell.same ∙ level_at q.grid cell.root cell.level cell.path, cell.deepest)
 
-pub above_cell : (q : Questions) (kind : Kind) (c : Cell) → c.level ≤ q.finest → line_code q kind c Split ≡ None → c.level < q.finest
+pub above_cell : (q : Questions) (kind : Kind) (c : Cell) → c.level ≤ q.grid.finest → line_code q kind c Split ≡ None → c.level < q.grid.finest
 above_cell q kind c low h =
-    elim (nat_eq c.level q.finest) as (λ v. nat_eq c.level q.finest ≡ v → cond {A = Option ℕ} v (Some 57) (cond (is_wrong_split q kind c) (Some 56) None) ≡ None → c.level < q.finest) [
+    elim (nat_eq c.level q.grid.finest) as (λ v. nat_eq c.level q.grid.finest ≡ v → cond {A = Option ℕ} v (Some 57) (cond (is_wrong_split q kind c) (Some 56) None) ≡ None → c.level < q.grid.finest) [
       | true ↦ λ is f. cc
       | false ↦ λ is f. grind (arith, nat_tests)
     ] refl h
@@ -33,9 +33,9 @@ two_more P xs ys zs x y e f all is also = subst (All P) (sym f) (All-push P ys y
 pub last_is_next : {X : Type 0} (xs : List X) (x : X) → reverse (xs ++ x ∷ []) ≡ x ∷ reverse xs
 last_is_next xs x = reverse-append xs (x ∷ [])
 
-pub root_waits : (q : Questions) → IsGrid q → (roots index : ℕ) → roots ≡ q.roots → index < roots → (ws xs : List Cell) → xs ≡ ws ++ whole_root (roots - index) ∷ [] → All (IsCell q) ws → All (IsCell q) xs
+pub root_waits : (q : Questions) → IsGrid q.grid → (roots index : ℕ) → roots ≡ q.grid.roots → index < roots → (ws xs : List Cell) → xs ≡ ws ++ whole_root (roots - index) ∷ [] → All (IsCell q.grid) ws → All (IsCell q.grid) xs
 root_waits q grid roots index all below ws xs e cells =
-    subst (All (IsCell q)) (sym e) (All-push (IsCell q) ws (whole_root (roots - index)) cells (root_is_cell q grid (roots - index) (omega arith) (omega arith)))
+    subst (All (IsCell q.grid)) (sym e) (All-push (IsCell q.grid) ws (whole_root (roots - index)) cells (root_is_cell q.grid grid (roots - index) (omega arith) (omega arith)))
 
 pub roots_wait : (roots index : ℕ) → index < roots → (ws xs : List Cell) → xs ≡ ws ++ whole_root (roots - index) ∷ [] → reverse ws ≡ map whole_root (count_from (roots - index + 1) index) → reverse xs ≡ map whole_root (count_from (roots - (index + 1) + 1) (index + 1))
 roots_wait roots index below ws xs e so_far =

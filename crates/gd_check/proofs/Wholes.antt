@@ -13,7 +13,7 @@ use Rattle.gd_check.specs.Answers.{answer_of}
 use Rattle.gd_check.specs.Right.{AreRightBodies, IsRight}
 use Rattle.gd_check.specs.Wrong.{are_counted, first_wrong, or_else, wrong_bodies, wrong_body}
 use Rattle.gd_check.specs.declared.answer.CheckAnswer.{CheckAnswer}
-use Rattle.gd_check.specs.declared.answer.CheckAnswer.TheVariants.{Valid, Invalid}
+use Rattle.gd_check.specs.declared.answer.CheckAnswer.TheVariants.{Invalid, Valid}
 
 -- ---- the groups
 neither : (f next : Option CertFault) → or_else f next ≡ None → (f ≡ None) × (next ≡ None)

@@ -1,7 +1,7 @@
 -- The codes of the rules, and what the trees of the code are of.
 use Rattle.std.specs.Prelude.{ℕ}
-use Rattle.gd_check.specs.Wrong.{Kind, OfReject, OfOpen}
 use Rattle.gd_check.specs.declared.rule.Rule.{Rule}
+use Rattle.gd_check.specs.Wrong.{Kind, OfOpen, OfReject}
 use Rattle.gd_check.specs.declared.rule.Rule.TheVariants as rule
 use Rattle.gd_check.specs.declared.tree.TreeOf.{TreeOf}
 use Rattle.gd_check.specs.declared.tree.TreeOf.TheVariants as tree_of
@@ -15,7 +15,7 @@ code_of rule.NoLine = 53
 code_of rule.NoCell = 54
 code_of rule.Groups = 55
 code_of rule.Open = 56
-code_of rule.LastLevel = 57
+code_of rule.FinestLevel = 57
 
 abbrev pub kind_of : TreeOf → Kind
 kind_of tree_of.Reject = OfReject

@@ -1,18 +1,19 @@
 -- The first wrong line of a certificate: its groups in order, their lines in order, and at a line the codes in order.
 use Rattle.std.specs.Prelude.{ℕ, ◌+◌, ℤ, Bool, true, false, not, ◌&&◌, ◌||◌, cond, nat_eq, nat_le, nat_lt, Option, Some, None, is_some, List, [], ◌∷◌, filter, length, map}
+use Rattle.gd_base.specs.declared.verdict.Counts.{Counts}
 use Rattle.gd_base.specs.declared.verdict.Reason.{Reason}
 use Rattle.gd_base.specs.declared.verdict.Reason.TheVariants as reason
-use Rattle.gd_cells.specs.Grid.{count_from}
+use Rattle.gd_cells.specs.Grid.{count_from, Grid}
 use Rattle.gd_cells.specs.Halves.{halves, whole_root}
 use Rattle.gd_cells.specs.Meaning.{Questions}
 use Rattle.gd_cells.specs.declared.cell.Cell.{Cell}
 use Rattle.gd_cells.specs.declared.node.Node.{Node}
-use Rattle.gd_cells.specs.declared.node.Node.TheVariants.{Split, Refuted, Left}
-use Rattle.gd_cert.specs.Certificates.{Body, Accept, Reject, Open, Certificate}
+use Rattle.gd_cells.specs.declared.node.Node.TheVariants.{Left, Refuted, Split}
+use Rattle.gd_cert.specs.Certificates.{Accept, Body, Certificate, Reject, Open}
 use Rattle.gd_cert.specs.Reading.{fault}
 use Rattle.gd_cert.specs.Text.{body_lines}
 use Rattle.gd_cert.specs.declared.fault.CertFault.{CertFault}
-use Rattle.gd_check.specs.Right.{witness_of}
+use Rattle.gd_cells.specs.Witnesses.{witness_of}
 
 -- a fault, or else the next
 abbrev pub or_else : Option CertFault → Option CertFault → Option CertFault
@@ -27,7 +28,7 @@ pub data Kind : Type 0 where
 
 -- a cell that may not be left or halved in an open group: something refutes it, or its centre holds
 abbrev pub is_decided : Questions → Cell → Bool
-is_decided q c = is_some (q.first c) || q.holds (q.centre c)
+is_decided q c = is_some (q.tests.first c) || q.tests.holds (q.tests.centre c)
 
 -- a halved cell that the kind of the tree forbids: 56
 abbrev pub is_wrong_split : Questions → Kind → Cell → Bool
@@ -41,13 +42,13 @@ is_wrong_left q (OfOpen last) c = is_decided q c || not (nat_eq c.level last)
 
 -- the code of a wrong line of a cell
 abbrev pub line_code : Questions → Kind → Cell → Node → Option ℕ
-line_code q kind c Split = cond (nat_eq c.level q.finest) (Some 57) (cond (is_wrong_split q kind c) (Some 56) None)
+line_code q kind c Split = cond (nat_eq c.level q.grid.finest) (Some 57) (cond (is_wrong_split q kind c) (Some 56) None)
 line_code q kind c Left = cond (is_wrong_left q kind c) (Some 56) None
-line_code q kind c (Refuted e) = cond (q.refuted c e) None (Some 50)
+line_code q kind c (Refuted e) = cond (q.tests.refuted c e) None (Some 50)
 
 -- the cells that wait for their lines after the line of a cell: its halves first, where it is halved
 abbrev pub waiting_after : Questions → Cell → Node → List Cell → List Cell
-waiting_after q c Split cells = (halves q.steps c).0 ∷ (halves q.steps c).1 ∷ cells
+waiting_after q c Split cells = (halves q.grid c).0 ∷ (halves q.grid c).1 ∷ cells
 waiting_after q c Left cells = cells
 waiting_after q c (Refuted e) cells = cells
 
@@ -56,8 +57,8 @@ abbrev pub with_code : ℕ → Option ℕ → Option CertFault → Option CertFa
 with_code line (Some code) next = Some (fault line code)
 with_code line None next = next
 
--- the first wrong line, from this line on, where these cells wait for their lines in order: a wrong line of its cell, a line
--- too many (54), or a cell without a line (53)
+-- the first wrong line, from this line on, where these cells wait for their lines in order: a wrong line of its cell, a
+-- line too many (54), or a cell without a line (53)
 unfoldable pub wrong_line : Questions → Kind → List Cell → ℕ → List Node → Option CertFault
 wrong_line q kind [] line [] = None
 wrong_line q kind [] line (node ∷ nodes) = Some (fault line 54)
@@ -67,7 +68,7 @@ wrong_line q kind (c ∷ cells) line (node ∷ nodes) =
 
 -- the cells of all roots, in order
 abbrev pub root_cells : Questions → List Cell
-root_cells q = map whole_root (count_from 1 q.roots)
+root_cells q = map whole_root (count_from 1 q.grid.roots)
 
 -- ---- the counts of an open group
 abbrev pub is_split : Node → Bool
@@ -80,29 +81,31 @@ is_left Split = false
 is_left (Refuted e) = false
 is_left Left = true
 
--- the reason doesn't fit: the grid doesn't end at the level, or it does; or to halve the undecided cells wouldn't pass the budget
-abbrev pub is_wrong_reason : Questions → ℕ → ℕ → ℕ → ℕ → Reason → Bool
-is_wrong_reason q budget level undecided spent reason.Budget = nat_le (spent + undecided) budget || nat_eq level q.finest
-is_wrong_reason q budget level undecided spent reason.Floor = not (nat_eq level q.finest)
+-- the reason, the last of the counts, doesn't fit: the grid doesn't end at the level, or it does; or to halve the
+-- undecided cells wouldn't pass the budget
+abbrev pub is_wrong_reason : Grid → ℕ → Counts → Reason → Bool
+is_wrong_reason g budget c reason.Budget = nat_le (c.spent + c.undecided) budget || nat_eq c.level g.finest
+is_wrong_reason g budget c reason.Floor = not (nat_eq c.level g.finest)
 
--- what the counts tell isn't so, or isn't an open verdict for the budget
-abbrev pub are_wrong_counts : Questions → ℕ → ℕ → ℕ → ℕ → Reason → List Node → Bool
-are_wrong_counts q budget level undecided spent why nodes =
-    not (nat_eq undecided (length (filter is_left nodes)))
-    || (not (nat_eq spent (length (filter is_split nodes)))
-    || (nat_lt budget spent || (is_wrong_reason q budget level undecided spent why || nat_eq undecided 0)))
+-- what the counts state isn't so, or isn't an open verdict for the budget
+abbrev pub are_wrong_counts : Questions → ℕ → Counts → List Node → Bool
+are_wrong_counts q budget c nodes =
+    not (nat_eq c.undecided (length (filter is_left nodes)))
+    || (not (nat_eq c.spent (length (filter is_split nodes)))
+    || (nat_lt budget c.spent || (is_wrong_reason q.grid budget c c.reason || nat_eq c.undecided 0)))
 
 -- ---- a group, whose first line has this number
 -- the numbers of a witness are as many as the task's, and name a place in range
 abbrev pub is_placed : Questions → ℕ → List ℤ → Bool
-is_placed q root at = nat_eq (length at) q.numbers && q.in_range (witness_of root at)
+is_placed q root at = nat_eq (length at) q.grid.numbers && q.tests.in_range (witness_of root at)
 
 abbrev pub wrong_body : Questions → ℕ → ℕ → Body → Option CertFault
 wrong_body q budget line (Accept root at) =
-    cond (is_placed q root at) (cond (q.holds (witness_of root at)) None (Some (fault (line + 1) 51))) (Some (fault (line + 1) 52))
+    cond (is_placed q root at) (cond (q.tests.holds (witness_of root at)) None (Some (fault (line + 1) 51))) (Some (fault (line + 1) 52))
 wrong_body q budget line (Reject nodes) = wrong_line q OfReject (root_cells q) (line + 1) nodes
-wrong_body q budget line (Open level undecided spent why nodes) =
-    or_else (wrong_line q (OfOpen level) (root_cells q) (line + 2) nodes) (cond (are_wrong_counts q budget level undecided spent why nodes) (Some (fault (line + 1) 56)) None)
+wrong_body q budget line (Open counts nodes) =
+    or_else (wrong_line q (OfOpen counts.level) (root_cells q) (line + 2) nodes)
+    (cond (are_wrong_counts q budget counts nodes) (Some (fault (line + 1) 56)) None)
 
 -- ---- a certificate
 -- the groups of the tasks, of which the first begins on this line

@@ -1,7 +1,5 @@
 // The check.
 ghost use Rattle.std.specs.Prelude.{◌≡◌, ◌≤◌, ◌<◌, ◌+◌, ◌^◌, ◌↔◌, IfOk, length, map};
-ghost use Rattle.std.specs.List.{All};
-ghost use Rattle.gd_cells.specs.Laws.{FirstRefutes, HalvesCover, HoldsIsFeasible, IsGrid, NoneRefutes, RefutedIsEmpty, RootsCover};
 ghost use Rattle.gd_cert.specs.Bounds.{IsInBounds};
 ghost use Rattle.gd_cert.specs.Certificates.{certificate_of};
 ghost use Rattle.gd_cert.specs.Text.{KeepsLines, text};
@@ -15,21 +13,11 @@ use crate::answer::CheckAnswer;
 use crate::group::wrong_group;
 use crate::rule::Rule;
 use gd_base::Memory;
-use gd_cells::Task;
+use gd_cells::{Task, show_laws};
 use gd_cert::{Cert, CertFault};
 use std::alloc::Global;
 
-// The laws of each task, so that a caller's proof can name them. It does nothing when it runs.
-fn show_laws<T: Task>(_tasks: &[T])
-    ensures grid { All (λ t. IsGrid (T.questions t)) _tasks.now }
-    ensures first { All (λ t. FirstRefutes (T.questions t)) _tasks.now }
-    ensures none { All (λ t. NoneRefutes (T.questions t)) _tasks.now }
-    ensures roots { All (λ t. RootsCover (T.questions t) (T.feasible t) (T.inside t)) _tasks.now }
-    ensures halves { All (λ t. HalvesCover (T.questions t) (T.inside t)) _tasks.now }
-    ensures empty { All (λ t. RefutedIsEmpty (T.questions t) (T.feasible t) (T.inside t)) _tasks.now }
-    ensures shows { All (λ t. HoldsIsFeasible (T.questions t) (T.feasible t) (T.assignment t)) _tasks.now }
-{}
-
+// What the first wrong line says of the certificate.
 fn told(wrong: Option<CertFault>) -> CheckAnswer
     ensures { answer_of result ≡ wrong }
 {
@@ -52,7 +40,8 @@ fn wrong_groups<T: Task>(
     requires lines { KeepsLines cert.now }
     requires short { length (text (certificate_of cert.now)) ≤ 134217728 }
     requires count { length cert.now.groups.items ≡ length tasks.now }
-    ensures { IfOk result (λ wrong. wrong ≡ wrong_bodies (map T.questions tasks.now) cert.now.share 5 (certificate_of cert.now).groups) }
+    ensures { IfOk result (λ wrong. wrong
+        ≡ wrong_bodies (map T.questions tasks.now) cert.now.share 5 (certificate_of cert.now).groups) }
 {
     let mut waiting = Vec::new(alloc);
     for (task, group) in tasks.iter().zip(cert.groups.iter()) {
@@ -73,7 +62,8 @@ fn first_wrong<T: Task>(
     requires bounds { IsInBounds (certificate_of cert.now) }
     requires lines { KeepsLines cert.now }
     requires short { length (text (certificate_of cert.now)) ≤ 134217728 }
-    ensures { IfOk result (λ wrong. wrong ≡ first_wrong (map T.questions tasks.now) (certificate_of cert.now)) }
+    ensures { IfOk result
+        (λ wrong. wrong ≡ first_wrong (map T.questions tasks.now) (certificate_of cert.now)) }
 {
     if cert.groups.len() != tasks.len() || cert.told as usize != tasks.len() {
         return Ok(Some(Rule::Groups.broken_at(4)));
@@ -81,22 +71,26 @@ fn first_wrong<T: Task>(
     wrong_groups(alloc, tasks, cert)
 }
 
-/// Decides a certificate of some tasks: it is valid exactly where it is right, and else its first wrong line is told, with code 50 to 57.
+/// Decides a certificate of some tasks: it is valid exactly where it is right, and else its first wrong line is given,
+/// with code 50 to 57.
 ///
-/// It makes no search. It asks a task of the cell of each line alone: whether the line's evidence refutes it; and in an open group, of a cell that is
-/// halved or left, whether anything refutes it and whether its centre holds.
+/// It makes no search. It asks a task of the cell of each line alone: whether the line's evidence refutes it; and in an
+/// open group, of a cell that is halved or left, whether anything refutes it and whether its centre holds.
 pub fn check<T: Task>(alloc: Global, tasks: &[T], cert: &Cert) -> Result<CheckAnswer, Memory>
     requires bounds { IsInBounds (certificate_of cert.now) }
     requires lines { KeepsLines cert.now }
     requires short { length (text (certificate_of cert.now)) ≤ 134217728 }
     // The first wrong line, by the order of the codes.
-    ensures exact { IfOk result (λ a. answer_of a ≡ first_wrong (map T.questions tasks.now) (certificate_of cert.now)) }
+    ensures exact { IfOk result
+        (λ a. answer_of a ≡ first_wrong (map T.questions tasks.now) (certificate_of cert.now)) }
     // Valid exactly where the certificate is right.
-    ensures valid { IfOk result (λ a. (a ≡ check_answer.Valid) ↔ IsRight (map T.questions tasks.now) (certificate_of cert.now)) }
+    ensures valid { IfOk result
+        (λ a. (a ≡ check_answer.Valid) ↔ IsRight (map T.questions tasks.now) (certificate_of cert.now)) }
     // What a valid certificate says of the assignments of each task.
-    ensures means { IfOk result (λ a. a ≡ check_answer.Valid → AreRight T.questions T.feasible T.assignment tasks.now (certificate_of cert.now)) }
+    ensures means { IfOk result (λ a. a ≡ check_answer.Valid
+        → AreRight T.questions T.feasible T.assignment tasks.now (certificate_of cert.now)) }
 {
-    show_laws(tasks);
+    show_laws::<T>();
     let wrong = first_wrong(alloc, tasks, cert)?;
     Ok(told(wrong))
 }

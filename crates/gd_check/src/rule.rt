@@ -6,7 +6,8 @@ ghost use Rattle.gd_check.specs.Rules.{code_of};
 use gd_cert::CertFault;
 
 /// What the lines of a right certificate keep (docs/FORMATS.md, "Certificate").
-/// Where the line of a cell breaks two rules, `LastLevel` is told before `Open`; where a witness does, `Place` before `Witness`.
+/// Where the line of a cell breaks two rules, `FinestLevel` comes before `Open`; where a witness does, `Place` before
+/// `Witness`.
 #[derive(Clone, Copy, Debug, PartialEq, Eq)]
 pub enum Rule {
     /// The evidence refutes its cell.
@@ -19,13 +20,14 @@ pub enum Rule {
     NoLine,
     /// Each line has a cell.
     NoCell,
-    /// There are as many groups as tasks, and as the fourth line tells.
+    /// There are as many groups as tasks, and as the fourth line states.
     Groups,
-    /// A reject leaves no cell undecided. An open group leaves the cells that nothing refutes and whose centres don't hold, at its level
-    /// alone, and halves such cells above it; its counts and its reason are those of the verdict for the budget.
+    /// A reject leaves no cell undecided. An open group leaves the cells that nothing refutes and whose centres don't
+    /// hold, at its level alone, and halves such cells above it; its counts and its reason are those of the verdict for
+    /// the budget.
     Open,
-    /// No cell of the last level is halved.
-    LastLevel,
+    /// No cell of the finest level is halved.
+    FinestLevel,
 }
 
 impl Rule {
@@ -41,7 +43,7 @@ impl Rule {
             Rule::NoCell => 54,
             Rule::Groups => 55,
             Rule::Open => 56,
-            Rule::LastLevel => 57,
+            Rule::FinestLevel => 57,
         }
     }
 

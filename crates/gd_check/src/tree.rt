@@ -1,14 +1,15 @@
 // The lines of a tree against the cells that wait for them.
 ghost use Rattle.std.specs.Prelude.{◌≡◌, ◌<◌, ◌+◌, ◌^◌, ◌∷◌, IfOk, List, ℕ, OnOk, length, option_map, reverse};
 ghost use Rattle.std.specs.List.{All};
-ghost use Rattle.gd_cells.specs.Meaning.{IsCell};
+ghost use Rattle.gd_cells.specs.Grid.{IsCell};
 ghost use Rattle.gd_cells.specs.declared.node.Node.{Node};
 ghost use Rattle.gd_check.specs.Rules.{code_of, kind_of};
-ghost use Rattle.gd_check.specs.Wrong.{is_decided, is_wrong_left, is_wrong_split, line_code, root_cells, waiting_after, with_code, wrong_line};
+ghost use Rattle.gd_check.specs.Wrong.{is_decided, is_wrong_left, is_wrong_split, line_code};
+ghost use Rattle.gd_check.specs.Wrong.{root_cells, waiting_after, with_code, wrong_line};
 
 use crate::rule::Rule;
 use gd_base::Memory;
-use gd_cells::{Cell, Node, Task, root_cell, show_centre_in_range, show_grid};
+use gd_cells::{Cell, Node, Task, root_cell, show_laws};
 use gd_cert::CertFault;
 
 /// What a tree is of: a rejected group, or an open one whose tree goes down to a level.
@@ -20,16 +21,16 @@ pub enum TreeOf {
 
 // Whether a cell may be neither left nor halved in an open group: something refutes it, or its centre holds.
 fn is_decided<T: Task>(task: &T, cell: &Cell) -> bool
-    requires { IsCell (T.questions task.now) cell.now }
+    requires { IsCell (T.questions task.now).grid cell.now }
     ensures { result ≡ is_decided (T.questions task.now) cell.now }
 {
-    show_centre_in_range(task);
+    show_laws::<T>();
     task.refutes(cell).is_some() || task.holds(&task.centre(cell))
 }
 
 // Whether the tree may not halve a cell.
 fn is_wrong_split<T: Task>(task: &T, tree_of: TreeOf, cell: &Cell) -> bool
-    requires { IsCell (T.questions task.now) cell.now }
+    requires { IsCell (T.questions task.now).grid cell.now }
     ensures { result ≡ is_wrong_split (T.questions task.now) (kind_of tree_of) cell.now }
 {
     match tree_of {
@@ -40,7 +41,7 @@ fn is_wrong_split<T: Task>(task: &T, tree_of: TreeOf, cell: &Cell) -> bool
 
 // Whether the tree may not leave a cell.
 fn is_wrong_left<T: Task>(task: &T, tree_of: TreeOf, cell: &Cell) -> bool
-    requires { IsCell (T.questions task.now) cell.now }
+    requires { IsCell (T.questions task.now).grid cell.now }
     ensures { result ≡ is_wrong_left (T.questions task.now) (kind_of tree_of) cell.now }
 {
     match tree_of {
@@ -51,11 +52,11 @@ fn is_wrong_left<T: Task>(task: &T, tree_of: TreeOf, cell: &Cell) -> bool
 
 // The rule that the line of a cell breaks.
 fn broken_rule<T: Task>(task: &T, tree_of: TreeOf, cell: &Cell, node: &Node) -> Option<Rule>
-    requires { IsCell (T.questions task.now) cell.now }
+    requires { IsCell (T.questions task.now).grid cell.now }
     ensures { option_map code_of result ≡ line_code (T.questions task.now) (kind_of tree_of) cell.now node.now }
 {
     match node {
-        Node::Split if cell.level == task.floor_level() => Some(Rule::LastLevel),
+        Node::Split if cell.level == task.finest_level() => Some(Rule::FinestLevel),
         Node::Split if is_wrong_split(task, tree_of, cell) => Some(Rule::Open),
         Node::Left if is_wrong_left(task, tree_of, cell) => Some(Rule::Open),
         Node::Refuted(evidence) if !task.refutes_at(cell, evidence) => Some(Rule::Evidence),
@@ -70,13 +71,14 @@ fn wait_after<T: Task>(
     node: &Node,
     waiting: &mut Vec<Cell>,
 ) -> Result<(), Memory>
-    requires cell { IsCell (T.questions task.now) cell.now }
-    requires above { node.now ≡ Node.Split → cell.now.level < (T.questions task.now).finest }
-    requires cells { All (IsCell (T.questions task.now)) waiting.old.items }
-    ensures cells { OnOk result (All (IsCell (T.questions task.now)) waiting.new.items) }
-    ensures after { OnOk result (reverse waiting.new.items ≡ waiting_after (T.questions task.now) cell.now node.now (reverse waiting.old.items)) }
+    requires cell { IsCell (T.questions task.now).grid cell.now }
+    requires above { node.now ≡ Node.Split → cell.now.level < (T.questions task.now).grid.finest }
+    requires cells { All (IsCell (T.questions task.now).grid) waiting.old.items }
+    ensures cells { OnOk result (All (IsCell (T.questions task.now).grid) waiting.new.items) }
+    ensures after { OnOk result (reverse waiting.new.items
+        ≡ waiting_after (T.questions task.now) cell.now node.now (reverse waiting.old.items)) }
 {
-    show_grid(task);
+    show_laws::<T>();
     if let Node::Split = node {
         let (lower, upper) = task.split(cell);
         waiting.push(upper)?;
@@ -93,11 +95,12 @@ fn take_line<T: Task>(
     node: &Node,
     waiting: &mut Vec<Cell>,
 ) -> Result<Option<Rule>, Memory>
-    requires { All (IsCell (T.questions task.now)) waiting.old.items }
-    ensures cells { OnOk result (All (IsCell (T.questions task.now)) waiting.new.items) }
+    requires { All (IsCell (T.questions task.now).grid) waiting.old.items }
+    ensures cells { OnOk result (All (IsCell (T.questions task.now).grid) waiting.new.items) }
     ensures line { IfOk result (λ broken. (line : ℕ) (nodes : List Node)
         → wrong_line (T.questions task.now) (kind_of tree_of) (reverse waiting.old.items) line (node.now ∷ nodes)
-        ≡ with_code line (option_map code_of broken) (wrong_line (T.questions task.now) (kind_of tree_of) (reverse waiting.new.items) (line + 1) nodes)) }
+        ≡ with_code line (option_map code_of broken)
+        (wrong_line (T.questions task.now) (kind_of tree_of) (reverse waiting.new.items) (line + 1) nodes)) }
 {
     let Some(cell) = waiting.pop() else {
         return Ok(Some(Rule::NoCell));
@@ -113,13 +116,13 @@ fn take_line<T: Task>(
 
 // Lets the cells of the roots wait, the first root last.
 fn wait_for_roots<T: Task>(task: &T, waiting: &mut Vec<Cell>) -> Result<(), Memory>
-    ensures cells { OnOk result (All (IsCell (T.questions task.now)) waiting.new.items) }
+    ensures cells { OnOk result (All (IsCell (T.questions task.now).grid) waiting.new.items) }
     ensures roots { OnOk result (reverse waiting.new.items ≡ root_cells (T.questions task.now)) }
 {
-    show_grid(task);
+    show_laws::<T>();
     let roots = task.roots();
     // a cell halved again and again leaves one half a level
-    let depth = roots + task.floor_level();
+    let depth = roots + task.finest_level();
     waiting.clear();
     waiting.reserve(depth as usize)?;
     for index in 0..roots {
@@ -128,7 +131,8 @@ fn wait_for_roots<T: Task>(task: &T, waiting: &mut Vec<Cell>) -> Result<(), Memo
     Ok(())
 }
 
-/// The first wrong line of a tree, of which the first has this number. `waiting` is room for the cells that wait for their lines.
+/// The first wrong line of a tree, of which the first has this number. `waiting` is room for the cells that wait for
+/// their lines.
 pub fn wrong_line<T: Task>(
     task: &T,
     tree_of: TreeOf,
@@ -137,7 +141,8 @@ pub fn wrong_line<T: Task>(
     waiting: &mut Vec<Cell>,
 ) -> Result<Option<CertFault>, Memory>
     requires { first_line + length tree.now < 2 ^ 32 }
-    ensures { IfOk result (λ wrong. wrong ≡ wrong_line (T.questions task.now) (kind_of tree_of) (root_cells (T.questions task.now)) first_line tree.now) }
+    ensures { let q = T.questions task.now in IfOk result
+        (λ wrong. wrong ≡ wrong_line q (kind_of tree_of) (root_cells q) first_line tree.now) }
 {
     wait_for_roots(task, waiting)?;
     let mut line = first_line;

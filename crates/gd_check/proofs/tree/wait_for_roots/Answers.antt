@@ -11,6 +11,6 @@ loop-index-preserved g c =
     let more : c.push.new.self.items ≡ c.loop-index.waiting.items ++ whole_root (c.roots-roots.result - c.loop-index.index) ∷ [] =
     c.in_ok-push.ensures.items ∙ ap (λ cell. c.loop-index.waiting.items ++ cell ∷ []) c.root_cell.ensures in
     record {
-      cells = root_waits q c.show_grid.ensures c.roots-roots.result c.loop-index.index c.roots-roots.ensures below c.loop-index.waiting.items c.push.new.self.items more c.loop-index.invariant.cells;
+      cells = root_waits q (c.show_laws.ensures c.args.task.now).is_grid c.roots-roots.result c.loop-index.index c.roots-roots.ensures below c.loop-index.waiting.items c.push.new.self.items more c.loop-index.invariant.cells;
       roots = roots_wait c.roots-roots.result c.loop-index.index below c.loop-index.waiting.items c.push.new.self.items more c.loop-index.invariant.roots;
     }
