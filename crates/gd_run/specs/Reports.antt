@@ -1,10 +1,10 @@
 -- A report, or why there is none.
-use Rattle.std.specs.Prelude.{ℕ, ◌≡◌, ◌≤◌, ◌⊎◌, List, Option, Some, None, Result, Ok, Err, IfSome}
-use Rattle.std.specs.String.{string_bytes}
-use Rattle.gd_run.specs.Endings.{IsOfFile, IsToLoad}
-use Rattle.gd_run.specs.Texts.{wrong_words_text}
-use Rattle.gd_run.specs.Words.{Ask, Asks, Flat, IsFlatCommand, IsNoCommand}
-use Rattle.gd_world.specs.Shelf.{Files}
+use Rattle.std.specs.Prelude.{ℕ, ◌≡◌, ◌≤◌, ◌⊎◌, List, Result, Ok, Err}
+use Rattle.gd_report.specs.Said.{Said, said_in, status_of}
+use Rattle.gd_report.specs.declared.ending.Ending.{Ending}
+use Rattle.gd_run.specs.declared.inputs.Inputs.{Inputs}
+use Rattle.gd_run.specs.declared.report.Refusal.{Refusal}
+use Rattle.gd_run.specs.declared.report.Refusal.TheVariants as refusal
 use Rattle.gd_run.specs.declared.report.Report.{Report}
 use Rattle.gd_run.specs.declared.report.Stop.{Stop}
 use Rattle.gd_run.specs.declared.report.Stop.TheVariants as stop
@@ -27,43 +27,13 @@ IsUnreadAnd Q (Ok report) = ⊥
 IsUnreadAnd Q (Err (stop.Unread word)) = Q word.now
 IsUnreadAnd Q (Err stop.Memory) = ⊥
 
--- ---- what is so of the reports of a command, whatever the shelf tells
--- a file goes with a verdict alone, under the word of the certificate
-pub record IsFlatKind (flat : Flat) (r : Report) : Type 0 where
-  pub status : r.line.status ≤ 3
-  pub named : IfSome r.file (λ f. flat.certificate ≡ Some f.name.now)
-  pub refused : 3 ≤ r.line.status → r.file ≡ None
+-- what is so of the inputs that were read, of what is said of one that was refused, and of the word of one that could not be read
+abbrev pub OnInputs : (Inputs → Type 0) → (Said → Type 0) → (List ℕ → Type 0) → Result Inputs Refusal → Type 0
+OnInputs P R Q (Ok inputs) = P inputs
+OnInputs P R Q (Err (refusal.Refused line)) = R (said_in line)
+OnInputs P R Q (Err (refusal.Unread word)) = Q word.now
+OnInputs P R Q (Err refusal.Memory) = Unit {0}
 
-pub record IsCheckKind (r : Report) : Type 0 where
-  pub status : (r.line.status ≡ 0) ⊎ (r.line.status ≡ 3) ⊎ (r.line.status ≡ 8)
-  pub nothing : r.file ≡ None
-
--- the word of a certificate that the words name
-pub record IsCertificateOf (words : List (List ℕ)) (name : List ℕ) : Type 0 where
-  pub flat : Flat
-  pub command : IsFlatCommand words flat
-  pub wanted : flat.certificate ≡ Some name
-
--- a status that a report may have: it is 4 exactly where the words are of no command, and a file is stored with none above 2
-pub record IsKind (words : List (List ℕ)) (r : Report) : Type 0 where
-  pub status : (r.line.status ≤ 4) ⊎ (r.line.status ≡ 8)
-  pub four : r.line.status ≡ 4 → IsNoCommand words × (string_bytes r.line.text ≡ wrong_words_text)
-  pub wrong : IsNoCommand words → r.line.status ≡ 4
-  pub named : IfSome r.file (λ f. IsCertificateOf words f.name.now)
-  pub refused : 3 ≤ r.line.status → r.file ≡ None
-
--- a word of a file that the words ask to read
-pub record FailsToLoad (words : List (List ℕ)) (word : List ℕ) : Type 0 where
-  pub ask : Ask
-  pub asks : Asks words ask
-  pub of_file : IsOfFile ask word
-
--- the word of a file that was to be loaded: those before it were read
-pub record IsUnreadIn (words : List (List ℕ)) (files : Files) (word : List ℕ) : Type 0 where
-  pub ask : Ask
-  pub asks : Asks words ask
-  pub to_load : IsToLoad ask files word
-
--- a status of an answer
-abbrev pub IsPlainStatus : ℕ → Type 0
-IsPlainStatus status = (status ≤ 4) ⊎ (status ≡ 8)
+-- an ending of an answer: of a verdict, a check, a refusal or wrong words
+abbrev pub IsPlain : Ending → Type 0
+IsPlain e = (status_of e ≤ 4) ⊎ (status_of e ≡ 8)
