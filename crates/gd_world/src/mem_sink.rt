@@ -44,7 +44,8 @@ impl Sink for MemSink {
 
     fn put(&mut self, _alloc: Global, bytes: &[u8]) -> Result<(), PutFault>
         ensures ok { OnOk result (self.new.bytes.items ≡ self.old.bytes.items ++ bytes.now) }
-        ensures part { IsErrOf result PutFault.Failed → self.new.bytes.items ≡ self.old.bytes.items ++ take (length bytes.now / 2) bytes.now }
+        ensures prefix { IsErrOf result PutFault.Failed
+            → self.new.bytes.items ≡ self.old.bytes.items ++ take (length bytes.now / 2) bytes.now }
         ensures memory { IsErrOf result PutFault.Memory → self.new.bytes.items ≡ self.old.bytes.items }
         ensures cause { PutCause (is_due self.old.fail.items self.old.calls) result }
         ensures sure { self.old.fail.items ≡ [] → ¬ IsErrOf result PutFault.Failed }

@@ -8,7 +8,7 @@ use std::alloc::{AllocError, Global};
 /// Why a put was not done.
 #[derive(Clone, Copy, Debug, PartialEq, Eq)]
 pub enum PutFault {
-    /// Writing failed, and a front of the bytes may have been written. The count of faults has risen.
+    /// Writing failed, and a prefix of the bytes may have been written. The count of faults has risen.
     Failed,
     /// Memory ran out, and nothing was written.
     Memory,
@@ -33,11 +33,12 @@ pub trait Sink {
     /// How often it has failed. The count stops at 2^64 - 1.
     ghost faults: { Self → ℕ };
 
-    /// Appends these bytes. `Failed` comes for a fault: a front of the bytes was then appended. After
+    /// Appends these bytes. `Failed` comes for a fault: a prefix of the bytes was then appended. After
     /// `Memory` nothing was.
     fn put(&mut self, alloc: Global, bytes: &[u8]) -> Result<(), PutFault>
         ensures ok { tells ≡ true → OnOk result (written self.new ≡ written self.old ++ bytes.now) }
-        ensures part { tells ≡ true → IsErrOf result PutFault.Failed → (n : ℕ) × (written self.new ≡ written self.old ++ take n bytes.now) }
+        ensures prefix { tells ≡ true → IsErrOf result PutFault.Failed
+            → (n : ℕ) × (written self.new ≡ written self.old ++ take n bytes.now) }
         ensures memory { IsErrOf result PutFault.Memory → written self.new ≡ written self.old }
         ensures later { faults self.old ≤ faults self.new }
         ensures rose { IsErrOf result PutFault.Failed → Rose (faults self.old) (faults self.new) }
