@@ -8,7 +8,7 @@ use Rattle.gd_run.specs.Answers.{Answer, Store}
 use Rattle.gd_run.specs.Asks.{Ask, Asks, IsNoCommand, inputs_of, store_of}
 use Rattle.gd_run.specs.Claims.{IsAccept, IsValid}
 use Rattle.gd_run.specs.Runs.{IsAnswer, IsNext, IsPossible, IsToRead}
-use Rattle.gd_world.specs.Shelf.{Files, IsWord, Puts, PutsPart, SameFiles, Word}
+use Rattle.gd_world.specs.Shelf.{Files, IsWord, Puts, PutsPrefix, SameFiles, Word}
 
 -- what a run was given and what it left: its words, whether the shelf and the sink tell, what the names held and hold, the failed
 -- word, what was written before and after, and the counts of faults before and after
@@ -70,7 +70,7 @@ pub record EndsInStore (c : Course) (code : ℕ) : Type 0 where
   pub rose : Rose c.shelf_faults.0 c.shelf_faults.1
   pub status : code ≡ 6
   pub mid : Files
-  pub stored : c.shelf_tells ≡ true → StoresDone done c.old mid × PutsPart mid c.new store.0 store.1
+  pub stored : c.shelf_tells ≡ true → StoresDone done c.old mid × PutsPrefix mid c.new store.0 store.1
   pub nothing : c.sink_tells ≡ true → c.now ≡ c.before
 
 -- a text to put, with the stores before it: those of the answer; none where a file could not be read

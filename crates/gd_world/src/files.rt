@@ -1,5 +1,5 @@
 // The files of the system. No clause tells what they hold.
-ghost use Rattle.std.specs.Prelude.{◌≡◌, ◌≤◌, ℕ, [], false, None, length, OnOk};
+ghost use Rattle.std.specs.Prelude.{◌≡◌, ◌+◌, ◌≤◌, ℕ, [], false, None, length, OnOk};
 ghost use Rattle.gd_world.specs.Memory.{one_more};
 
 use crate::streams::{read_all, write_all};
@@ -78,6 +78,8 @@ impl<'a, R: Files> Shelf for FileShelf<'a, R> {
     ghost faults = { λ s. s.faults };
 
     ghost failed = { λ s. (s.failed.items, s.storing) };
+
+    ghost calls = { λ s. 0 };
 
     fn load(&mut self, alloc: Global, name: &str, into: &mut Vec<u8>) -> Result<(), LoadFault> {
         into.clear();

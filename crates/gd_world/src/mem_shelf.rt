@@ -1,5 +1,5 @@
 // A shelf in memory, whose calls fail where a list says so.
-ghost use Rattle.std.specs.Prelude.{◌≡◌, ◌⊎◌, ◌≤◌, ◌<◌, ◌∷◌, ℕ, [], true, false, Some, None, take, length, OnOk, OnErr};
+ghost use Rattle.std.specs.Prelude.{◌≡◌, ◌⊎◌, ◌≤◌, ◌<◌, ◌+◌, ◌∷◌, ℕ, [], true, false, Some, None, take, length, OnOk, OnErr};
 ghost use Rattle.std.specs.Prelude.{IsSomeAnd, IsErrOf};
 ghost use Rattle.gd_world.specs.Memory.{is_due, one_more, LoadCause, StoreCause};
 ghost use Rattle.gd_world.specs.Shelf.{held, Puts, LoadWord, StoreWord};
@@ -100,6 +100,8 @@ impl Shelf for MemShelf {
 
     ghost failed = { λ s. (s.failed.items, s.storing) };
 
+    ghost calls = { λ s. s.calls };
+
     fn load(&mut self, alloc: Global, name: &str, into: &mut Vec<u8>) -> Result<(), LoadFault>
         ensures bytes { OnOk result (held self.old.files.items name.now ≡ Some into.new.items) }
         ensures short { OnOk result (length into.new.items ≤ 134217728) }
@@ -114,7 +116,8 @@ impl Shelf for MemShelf {
           failed = self.new.failed;
           storing = self.new.storing;
         } }
-        ensures calls { ¬ IsErrOf result LoadFault.Memory → self.new.calls ≡ one_more self.old.calls }
+        ensures calls { self.new.calls ≤ self.old.calls + 1 }
+        ensures counted { ¬ IsErrOf result LoadFault.Memory → self.new.calls ≡ one_more self.old.calls }
         ensures uncounted { IsErrOf result LoadFault.Memory
             → (self.new.calls ≡ self.old.calls) ⊎ (self.new.calls ≡ one_more self.old.calls) }
         ensures later { self.old.faults ≤ self.new.faults }
@@ -151,7 +154,8 @@ impl Shelf for MemShelf {
           failed = self.new.failed;
           storing = self.new.storing;
         } }
-        ensures calls { ¬ IsErrOf result StoreFault.Memory → self.new.calls ≡ one_more self.old.calls }
+        ensures calls { self.new.calls ≤ self.old.calls + 1 }
+        ensures counted { ¬ IsErrOf result StoreFault.Memory → self.new.calls ≡ one_more self.old.calls }
         ensures uncounted { IsErrOf result StoreFault.Memory
             → (self.new.calls ≡ self.old.calls) ⊎ (self.new.calls ≡ one_more self.old.calls) }
         ensures later { self.old.faults ≤ self.new.faults }

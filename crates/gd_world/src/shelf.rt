@@ -1,5 +1,5 @@
 // The trait of what names hold, and why its calls are refused.
-ghost use Rattle.std.specs.Prelude.{◌≡◌, ◌≤◌, ◌<◌, ℕ, [], Bool, true, Some, None, length, OnOk, OnErr, IsSomeAnd};
+ghost use Rattle.std.specs.Prelude.{◌≡◌, ◌+◌, ◌≤◌, ◌<◌, ℕ, [], Bool, true, Some, None, length, OnOk, OnErr, IsSomeAnd};
 ghost use Rattle.std.specs.Prelude.{IsErrOf};
 ghost use Rattle.gd_base.specs.Causes.{Rose};
 ghost use Rattle.gd_world.specs.declared.shelf.LoadFault.TheVariants as load_fault;
@@ -70,6 +70,9 @@ pub trait Shelf {
     /// The name of the last call that answered `Failed`, and whether that was a store.
     ghost failed: { Self → Word };
 
+    /// How many calls were counted. A call counts one at most; memory counts each, and the system's files count none.
+    ghost calls: { Self → ℕ };
+
     /// Reads all that a name holds into `into`, in place of what stood there. `Failed` comes for a
     /// name that isn't there and for a fault, `TooLong` for more than 134,217,728 bytes, `Memory` where
     /// there is no room. After each of them `into` is empty.
@@ -85,7 +88,8 @@ pub trait Shelf {
         ensures later { faults self.old ≤ faults self.new }
         ensures rose { IsErrOf result LoadFault.Failed → Rose (faults self.old) (faults self.new) }
         ensures steady { ¬ IsErrOf result LoadFault.Failed → faults self.new ≡ faults self.old }
-        ensures word { LoadWord (failed self.old) (failed self.new) name.now result };
+        ensures word { LoadWord (failed self.old) (failed self.new) name.now result }
+        ensures calls { calls self.new ≤ calls self.old + 1 };
 
     /// Makes a name hold these bytes, in place of what it held. `Failed` comes for a fault: the name
     /// then holds its old bytes or a prefix of the new ones. After `Memory` each name holds what it held.
@@ -97,5 +101,6 @@ pub trait Shelf {
         ensures later { faults self.old ≤ faults self.new }
         ensures rose { IsErrOf result StoreFault.Failed → Rose (faults self.old) (faults self.new) }
         ensures steady { ¬ IsErrOf result StoreFault.Failed → faults self.new ≡ faults self.old }
-        ensures word { StoreWord (failed self.old) (failed self.new) name.now result };
+        ensures word { StoreWord (failed self.old) (failed self.new) name.now result }
+        ensures calls { calls self.new ≤ calls self.old + 1 };
 }

@@ -1,5 +1,5 @@
 // A shelf in memory of which no call fails.
-ghost use Rattle.std.specs.Prelude.{◌≡◌, ◌≤◌, ◌<◌, ℕ, [], true, false, Some, length, OnOk, OnErr, IsSomeAnd, IsErrOf};
+ghost use Rattle.std.specs.Prelude.{◌≡◌, ◌+◌, ◌≤◌, ◌<◌, ℕ, [], true, false, Some, length, OnOk, OnErr, IsSomeAnd, IsErrOf};
 ghost use Rattle.gd_world.specs.Shelf.{held_or, Puts, SameFiles};
 
 use crate::entries::{copy_held, first_of, put_first};
@@ -34,6 +34,8 @@ impl Shelf for SureShelf {
     ghost faults = { λ s. 0 };
 
     ghost failed = { λ s. ([], false) };
+
+    ghost calls = { λ s. 0 };
 
     fn load(&mut self, _alloc: Global, name: &str, into: &mut Vec<u8>) -> Result<(), LoadFault>
         ensures bytes { OnOk result
