@@ -51,4 +51,4 @@ IsAskOf words None = IsNoCommand words
 -- the command of one kind that the words spell with its numbers in range, or that there is none
 abbrev pub IsSpelled : {C : Type 0} → (C → List (List ℕ)) → (C → Type 0) → List (List ℕ) → Option C → Type 0
 IsSpelled spell range words (Some c) = (words ≡ spell c) × range c
-IsSpelled spell range words None = (c : C) → words ≡ spell c → range c → ⊥
+IsSpelled {C = C} spell range words None = (c : C) → words ≡ spell c → range c → ⊥

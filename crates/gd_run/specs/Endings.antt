@@ -109,6 +109,14 @@ pub record EndsInWant (c : Course) (code : ℕ) : Type 0 where
 abbrev pub Ends : Course → ℕ → Type 0
 Ends c code = EndsWithAnswer c code ⊎ (EndsUnread c code ⊎ (EndsInStore c code ⊎ (EndsInPut c code ⊎ EndsInWant c code)))
 
+-- the same over a shelf and a sink that tell: the answer of these files, its stores and its text
+pub record Answers (words : List (List ℕ)) (old new : Files) (before now : List ℕ) (code : ℕ) : Type 0 where
+  pub answer : Answer
+  pub is : IsAnswer words old answer
+  pub status : code ≡ status_of answer.said.ending
+  pub stored : StoresDone answer.stores old new
+  pub written : now ≡ before ++ answer.said.text
+
 -- the run printed something that is so
 pub record Prints (Says : List ℕ → Type 0) (before now : List ℕ) : Type 0 where
   pub printed : List ℕ
@@ -118,6 +126,10 @@ pub record Prints (Says : List ℕ → Type 0) (before now : List ℕ) : Type 0 
 -- status 0: an accept, or a valid certificate
 abbrev pub EndsInZero : List (List ℕ) → Files → List ℕ → List ℕ → Type 0
 EndsInZero words files before now = Prints (λ printed. IsAccept words files printed ⊎ IsValid words files printed) before now
+
+-- the shelf was called at most once for each input of the command
+abbrev pub ReadsFew : List (List ℕ) → ℕ → ℕ → Type 0
+ReadsFew words before now = (IsNoCommand words × (now ≤ before)) ⊎ ((ask : Ask) × Asks words ask × (now ≤ before + length (inputs_of ask)))
 
 -- the shelf was called at most once for each input of the command, and once where it stores
 abbrev pub CallsFew : List (List ℕ) → ℕ → ℕ → Type 0

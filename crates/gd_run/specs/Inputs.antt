@@ -7,7 +7,7 @@ use Rattle.gd_cert.specs.Reading.{fault, reading}
 use Rattle.gd_cert.specs.declared.fault.CertFault.{CertFault}
 use Rattle.gd_points.specs.Points.{points}
 use Rattle.gd_points.specs.Table.{Table}
-use Rattle.gd_report.specs.Said.{Said, invalid, refused}
+use Rattle.gd_report.specs.Said.{Said, invalid, refused, status_of}
 use Rattle.gd_run.specs.declared.inputs.InputKind.{InputKind}
 use Rattle.gd_run.specs.declared.inputs.InputKind.TheVariants as kind
 use Rattle.gd_world.specs.Shelf.{Files}
@@ -50,7 +50,20 @@ abbrev pub with_bytes : InputKind → Given → List ℕ → List ℕ → Result
 with_bytes kind.Points g word bytes = with_points g word (points_file bytes)
 with_bytes kind.Certificate g word bytes = with_certificate g (certificate_file bytes)
 
--- an input is read, if what was said of those before it was nothing
+-- one input is read so from what its name holds
+abbrev pub Reads : Given → Input → Files → Result Given Said → Type 0
+Reads g i files read = IsSomeAnd (files i.word) (λ bytes. with_bytes i.kind g i.word bytes ≡ read)
+
+-- what is said of an input that is too long
+abbrev pub said_of_long : InputKind → List ℕ → Said
+said_of_long kind.Points word = refused word (record { code = 17; row = 0; column = 0 })
+said_of_long kind.Certificate word = invalid 0 46
+
+-- what is said of an input that is refused ends a run so
+abbrev pub IsRefusal : Said → Type 0
+IsRefusal said = (status_of said.ending ≡ 3) ⊎ (status_of said.ending ≡ 8)
+
+-- the next inputs are read, where none was refused
 abbrev pub and_reads : Result Given Said → (Given → Option (Result Given Said)) → Option (Result Given Said)
 and_reads (Ok g) next = next g
 and_reads (Err said) next = Some (Err said)

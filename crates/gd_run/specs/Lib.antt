@@ -8,3 +8,4 @@ pub mod Claims
 pub mod Endings
 pub mod Views
 pub mod Reports
+pub mod Outcomes

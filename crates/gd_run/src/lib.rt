@@ -8,6 +8,7 @@ mod decision;
 mod flat;
 mod inputs;
 mod program;
+mod reading;
 mod report;
 #[cfg(test)]
 mod tests;
