@@ -173,15 +173,15 @@ unread_ends c mid failed faults w e h = elim (which e) as (λ _. Ends c (status_
       | inl is ↦ elim (h.unwritten is) as (λ _. Ends c (status_of e)) [
         | inl f ↦ absurd f
         | inr p ↦ inr (inr (inr (inl (record {
-            stores = [];
-            text = cannot_read_text w.now;
-            to_put = inr (w.now, unread_of c mid failed faults w e h, refl, refl);
-            rose = p.0;
-            status = ap status_of is;
-            stored = λ t. (unread_of c mid failed faults w e h).kept;
-            kept = λ n. (unread_of c mid failed faults w e h).kept;
-            written = p.1;
-          }))))
+          stores = [];
+          text = cannot_read_text w.now;
+          to_put = inr (w.now, unread_of c mid failed faults w e h, refl, refl);
+          rose = p.0;
+          status = ap status_of is;
+          stored = λ t. (unread_of c mid failed faults w e h).kept;
+          kept = λ n. (unread_of c mid failed faults w e h).kept;
+          written = p.1;
+        }))))
       ]
       | inr is ↦ inr (inr (inr (inr (record { status = ap status_of is; files = inl (unread_of c mid failed faults w e h).kept; nothing = λ t. h.silent t is }))))
     ]

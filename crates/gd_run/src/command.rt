@@ -48,8 +48,17 @@ impl<'a> Command<'a> {
     {
         match words {
             [name, points, tolerance, last] => match name.as_str() {
-                "flat" => as_flat(FlatCommand::of(points.as_str(), tolerance.as_str(), last.as_str(), None)),
-                "checkflat" => as_check(CheckCommand::of(points.as_str(), tolerance.as_str(), last.as_str())),
+                "flat" => as_flat(FlatCommand::of(
+                    points.as_str(),
+                    tolerance.as_str(),
+                    last.as_str(),
+                    None,
+                )),
+                "checkflat" => as_check(CheckCommand::of(
+                    points.as_str(),
+                    tolerance.as_str(),
+                    last.as_str(),
+                )),
                 _ => None,
             },
             [name, points, tolerance, budget, last] => match name.as_str() {

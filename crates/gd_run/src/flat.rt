@@ -114,9 +114,7 @@ fn outcome_line(alloc: Global, outcome: &Outcome) -> Result<Line, AllocError>
     ensures { IfOk result (λ line. said_in line ≡ said_of_end (end_of outcome.now)) }
 {
     match outcome {
-        Outcome::Accept { witness, level } => {
-            accept_line(alloc, *level, &direction_at(witness))
-        }
+        Outcome::Accept { witness, level } => { accept_line(alloc, *level, &direction_at(witness)) }
         Outcome::Reject { tree } => reject_line(alloc, leaves(tree)),
         Outcome::StillOpen {
             level,

@@ -166,9 +166,9 @@ fn end<S: Shelf, O: Sink>(
     ensures untouched { IsUnreadAnd (λ w. Unit {0}) answer.entry → shelf.new ≡ shelf.old }
     ensures unwritten { result ≡ ending.Unwritten
         → HasReport (λ r. StoreFails r S.tells (S.holds shelf.old) (S.holds shelf.new) (S.failed shelf.new) (S.faults shelf.old) (S.faults shelf.new) O.tells (O.written out.old) (O.written out.new)
-            ⊎ PutFails r S.tells (S.holds shelf.old) (S.holds shelf.new) O.tells (O.written out.old) (O.written out.new) (O.faults out.old) (O.faults out.new)) answer.entry
+        ⊎ PutFails r S.tells (S.holds shelf.old) (S.holds shelf.new) O.tells (O.written out.old) (O.written out.new) (O.faults out.old) (O.faults out.new)) answer.entry
         ⊎ IsUnreadAnd (λ w. Rose (O.faults out.old) (O.faults out.new)
-            × (O.tells ≡ true → (n : ℕ) × (O.written out.new ≡ O.written out.old ++ take n (cannot_read_text w)))) answer.entry }
+        × (O.tells ≡ true → (n : ℕ) × (O.written out.new ≡ O.written out.old ++ take n (cannot_read_text w)))) answer.entry }
     ensures silent { O.tells ≡ true → result ≡ ending.OutOfMemory → O.written out.new ≡ O.written out.old }
     ensures want { result ≡ ending.OutOfMemory → SameFiles (S.holds shelf.old) (S.holds shelf.new)
         ⊎ HasReport (λ r. S.tells ≡ true → StoresDone (stores_in r.file) (S.holds shelf.old) (S.holds shelf.new)) answer.entry }
@@ -195,17 +195,17 @@ fn run_once<R: Threads + Sync, S: Shelf, O: Sink>(
     out: &mut O,
 ) -> Ending
     ensures ends { Ends (record {
-        words = map string_bytes words.now;
-        shelf_tells = S.tells;
-        sink_tells = O.tells;
-        old = S.holds shelf.old;
-        new = S.holds shelf.new;
-        failed = S.failed shelf.new;
-        before = O.written out.old;
-        now = O.written out.new;
-        shelf_faults = (S.faults shelf.old, S.faults shelf.new);
-        sink_faults = (O.faults out.old, O.faults out.new);
-      }) (status_of result) }
+      words = map string_bytes words.now;
+      shelf_tells = S.tells;
+      sink_tells = O.tells;
+      old = S.holds shelf.old;
+      new = S.holds shelf.new;
+      failed = S.failed shelf.new;
+      before = O.written out.old;
+      now = O.written out.new;
+      shelf_faults = (S.faults shelf.old, S.faults shelf.new);
+      sink_faults = (O.faults out.old, O.faults out.new);
+    }) (status_of result) }
     ensures calls { CallsFew (map string_bytes words.now) (S.calls shelf.old) (S.calls shelf.new) }
     ensures one_put { O.calls out.new ≤ O.calls out.old + 1 }
 {
@@ -226,17 +226,17 @@ pub fn run<R: Threads + Sync, S: Shelf, O: Sink>(
 ) -> Status
     // A run ends with its answer, with a file that could not be read, in a store or a put that failed, or for want of memory.
     ensures ends { Ends (record {
-        words = map string_bytes words.now.items;
-        shelf_tells = S.tells;
-        sink_tells = O.tells;
-        old = S.holds shelf.old;
-        new = S.holds shelf.new;
-        failed = S.failed shelf.new;
-        before = O.written out.old;
-        now = O.written out.new;
-        shelf_faults = (S.faults shelf.old, S.faults shelf.new);
-        sink_faults = (O.faults out.old, O.faults out.new);
-      }) result.0 }
+      words = map string_bytes words.now.items;
+      shelf_tells = S.tells;
+      sink_tells = O.tells;
+      old = S.holds shelf.old;
+      new = S.holds shelf.new;
+      failed = S.failed shelf.new;
+      before = O.written out.old;
+      now = O.written out.new;
+      shelf_faults = (S.faults shelf.old, S.faults shelf.new);
+      sink_faults = (O.faults out.old, O.faults out.new);
+    }) result.0 }
 
     // A run in which no load, no store and no put failed ends with its answer, but for want of memory.
     ensures answer { S.tells ≡ true → O.tells ≡ true → result.0 ≢ 5 → result.0 ≢ 6 → result.0 ≢ 7

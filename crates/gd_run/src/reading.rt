@@ -58,11 +58,7 @@ fn read_table<'a>(
 }
 
 // Reads the bytes of a certificate.
-fn read_certificate<'a>(
-    alloc: Global,
-    bytes: &[u8],
-    inputs: Inputs,
-) -> Result<Inputs, Refusal<'a>>
+fn read_certificate<'a>(alloc: Global, bytes: &[u8], inputs: Inputs) -> Result<Inputs, Refusal<'a>>
     requires short { length bytes.now ≤ FILE_BYTES }
     requires sound { IsSound inputs }
     ensures read { OnInputs (λ i. with_certificate (given_of inputs) (certificate_file bytes.now) ≡ Ok (given_of i))
