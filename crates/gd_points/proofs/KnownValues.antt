@@ -25,8 +25,8 @@ no_digit = refl
 two_signs : number_of (codes "--1") ≡ None
 two_signs = refl
 
-blank_behind_sign : number_of (codes "- 1") ≡ None
-blank_behind_sign = refl
+blank_after_sign : number_of (codes "- 1") ≡ None
+blank_after_sign = refl
 
 blank_between : number_of (codes "1 2") ≡ None
 blank_between = refl

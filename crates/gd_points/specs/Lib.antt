@@ -3,6 +3,6 @@ pub mod Rules
 pub mod Table
 pub mod Columns
 pub mod Points
-pub mod Joined
-pub mod Parts
+pub mod Named
+pub mod Fields
 pub mod Reader

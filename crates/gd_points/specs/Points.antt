@@ -1,5 +1,6 @@
 -- The table that a points file stands for, or its first fault: row by row, and in a row from left to right.
-use Rattle.std.specs.Prelude.{ℕ, ◌+◌, ◌≡◌, ℤ, pos, negsuc, Bool, false, List, [], ◌∷◌, Option, Some, None, Result, Ok, Err, length, nat_lt, nat_eq, ◌==◌, ◌&&◌, int_le, unsigned_abs, codes, if◌then◌else◌}
+use Rattle.std.specs.Prelude.{ℕ, ◌+◌, ◌≡◌, ℤ, pos, negsuc, Bool, false, List, [], ◌∷◌, Option, Some, None, Result, Ok}
+use Rattle.std.specs.Prelude.{Err, length, nat_lt, nat_eq, ◌==◌, ◌&&◌, int_le, unsigned_abs, codes, if◌then◌else◌}
 use Rattle.std.specs.Cmp.Lexicographic.{pointwise}
 use Rattle.csv.specs.Reading.{default_config, records, strip_bom}
 use Rattle.gd_base.specs.Names.{name_of}
@@ -101,9 +102,11 @@ is_header (Some f) = pointwise nat_eq f.name (codes "feature") && pointwise nat_
 -- the first record is the header, and the others are points
 abbrev pub points_of : List (List (List ℕ)) → Result Table InputFault
 points_of [] = Err (fault rule.Header 1 0)
-points_of (fields ∷ rest) = if is_header (five_of fields) then points_from empty_table rest else Err (fault rule.Header 1 0)
+points_of (fields ∷ rest) =
+    if is_header (five_of fields) then points_from empty_table rest else Err (fault rule.Header 1 0)
 
--- the table of a file, or its first fault: a byte order mark is dropped, and `csv` drops one more before it splits the rest into records
+-- the table of a file, or its first fault: a byte order mark is dropped, and `csv` drops one more before it splits the
+-- rest into records
 abbrev pub points : List ℕ → Result Table InputFault
 points bytes = points_of (records default_config (strip_bom (strip_bom bytes)))
 

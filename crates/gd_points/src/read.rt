@@ -1,21 +1,24 @@
 // The reader of a points file.
-ghost use Rattle.std.specs.Prelude.{◌≡◌, ◌<◌, ◌≤◌, ◌≤ℤ◌, ◌<ℤ◌, ℤ, pos, negsuc, Some, None, IfOk, OnOk, length, option_map, unsigned_abs};
+ghost use Rattle.std.specs.Prelude.{◌≡◌, ◌<◌, ◌≤◌, ◌≤ℤ◌, ◌<ℤ◌, ℤ, pos, negsuc, Some, None, IfOk, length, option_map};
+ghost use Rattle.std.specs.Prelude.{unsigned_abs};
 ghost use Rattle.csv.specs.Reading.{default_config, records, strip_bom};
 ghost use Rattle.csv.specs.Records.{fields_of, field_at};
 ghost use Rattle.gd_base.specs.Names.{name_of};
-ghost use Rattle.gd_points.specs.Parts.{Adds, IsNamed, name_in, seen, shown};
-ghost use Rattle.gd_points.specs.Points.{Answers, coordinate_in, five_of, group_in, is_header, next_row, number_in, or_fault, place_in, point_in, points, with_record, with_records};
+ghost use Rattle.gd_points.specs.Fields.{Adds, seen, shown};
+ghost use Rattle.gd_points.specs.Named.{IsNamed, name_in};
+ghost use Rattle.gd_points.specs.Points.{Answers, coordinate_in, five_of, group_in, is_header, next_row, number_in};
+ghost use Rattle.gd_points.specs.Points.{or_fault, place_in, point_in, points, with_record, with_records};
 ghost use Rattle.gd_points.specs.Reader.{IsBetween, TakesHeader, TakesNext, records_left};
 ghost use Rattle.gd_points.specs.Rules.{fault};
-ghost use Rattle.gd_points.specs.Table.{empty_table, with_point};
+ghost use Rattle.gd_points.specs.Table.{empty_table};
 ghost use Rattle.gd_points.specs.declared.rule.Rule.TheVariants as rule;
 ghost use Rattle.gd_vec.specs.Vector.{IsWithin};
 
 use crate::number::read_number;
-use crate::{PointTable, Rule};
+use crate::{Named, PointTable, Rule};
 use csv::{ByteRecord, Reader, ReaderBuilder};
 use gd_base::limits::{COORDINATE, GROUP, POINTS};
-use gd_base::{Memory, Name, ReadFault};
+use gd_base::{Name, ReadFault};
 use gd_vec::V3;
 use std::alloc::Global;
 
@@ -27,13 +30,6 @@ struct Fields<'a> {
     x: &'a [u8],
     y: &'a [u8],
     z: &'a [u8],
-}
-
-// The name of a point: that of the feature before it, by its number, or another one.
-#[derive(Drop)]
-enum Named {
-    Again(u32),
-    Other(Name),
 }
 
 // A point that was read and isn't in the table yet.
@@ -53,25 +49,23 @@ pub fn read_points(alloc: Global, bytes: &[u8]) -> Result<PointTable, ReadFault>
     let mut reader = records_in(alloc, without_mark(bytes));
     let mut entry = ByteRecord::new(alloc);
     read_header(&mut reader, &mut entry)?;
-    let table = read_records(alloc, &mut reader, &mut entry, 0)?;
+    let table = read_records(alloc, &mut reader, &mut entry)?;
     if table.is_empty() {
         return Err(Rule::NoPoints.broken_at(2, 0));
     }
     Ok(table)
 }
 
-// The table of the records that are left. There is room for so many before the first is read.
-pub(crate) fn read_records(
+// The table of the records that are left.
+fn read_records(
     alloc: Global,
     reader: &mut Reader<&[u8]>,
     entry: &mut ByteRecord,
-    room: usize,
 ) -> Result<PointTable, ReadFault>
     requires { IsBetween reader.old }
     ensures { Answers (λ t. t) result (with_records empty_table (records_left reader.old)) }
 {
     let mut table = PointTable::new(alloc);
-    table.make_room(room);
     while read_next(reader, entry)? {
         add_record(alloc, &mut table, entry)?;
     }
@@ -79,7 +73,7 @@ pub(crate) fn read_records(
 }
 
 // The bytes without a byte order mark at their start.
-pub(crate) fn without_mark(bytes: &[u8]) -> &[u8]
+fn without_mark(bytes: &[u8]) -> &[u8]
     ensures { result.now ≡ strip_bom bytes.now }
 {
     match bytes.strip_prefix(b"\xEF\xBB\xBF".as_slice()) {
@@ -89,7 +83,7 @@ pub(crate) fn without_mark(bytes: &[u8]) -> &[u8]
 }
 
 // A reader of the records, each of any length.
-pub(crate) fn records_in(alloc: Global, bytes: &[u8]) -> Reader<&[u8]>
+fn records_in(alloc: Global, bytes: &[u8]) -> Reader<&[u8]>
     ensures between { IsBetween result }
     ensures records { records_left result ≡ records default_config (strip_bom bytes.now) }
 {
@@ -155,22 +149,9 @@ fn add_record(alloc: Global, table: &mut PointTable, entry: &ByteRecord) -> Resu
         return Err(Rule::TooManyPoints.broken_at(row, 0));
     }
     let point = read_point(alloc, table, &fields, row)?;
-    add_point(table, point)?;
-    Ok(())
-}
-
-fn add_point(table: &mut PointTable, point: PointRead) -> Result<(), Memory>
-    requires room { length table.old.rows < 200000 }
-    requires named { IsNamed table.old point.name }
-    requires group { point.group ≤ 999 }
-    requires within { IsWithin 8000000 point.at }
-    ensures { OnOk result (table.new ≡ with_point table.old (name_in table.old point.name) point.group point.at) }
-{
     let PointRead { name, group, at } = point;
-    match name {
-        Named::Again(feature) => table.push_again(feature, group, at),
-        Named::Other(name) => table.push(name, group, at),
-    }
+    table.push(name, group, at)?;
+    Ok(())
 }
 
 // The fields of a record, if there are five.
@@ -204,7 +185,7 @@ fn read_point(
     row: u32,
 ) -> Result<PointRead, ReadFault>
     ensures answers { Answers (shown table.now) result (point_in row (seen fields.now)) }
-    ensures named { IfOk result (λ point. IsNamed table.now point.name) }
+    ensures named { IfOk result (λ point. IsNamed table.now.names point.name) }
     ensures group { IfOk result (λ point. point.group ≤ 999) }
     ensures within { IfOk result (λ point. IsWithin 8000000 point.at) }
 {
@@ -216,8 +197,8 @@ fn read_point(
 
 // The name that a field spells. Most points have that of the point before them, which needs no memory.
 fn read_name(alloc: Global, table: &PointTable, field: &[u8], row: u32) -> Result<Named, ReadFault>
-    ensures answers { Answers (name_in table.now) result (or_fault (name_of field.now) (fault rule.Name row 1)) }
-    ensures named { IfOk result (λ name. IsNamed table.now name) }
+    ensures answers { Answers (name_in table.now.names) result (or_fault (name_of field.now) (fault rule.Name row 1)) }
+    ensures named { IfOk result (λ name. IsNamed table.now.names name) }
 {
     if let Some(feature) = table.last_named(field) {
         return Ok(Named::Again(feature));
