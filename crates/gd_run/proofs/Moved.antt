@@ -11,15 +11,15 @@ use Rattle.gd_run.specs.declared.report.NamedFile.{NamedFile}
 use Rattle.gd_run.specs.declared.report.Report.{Report}
 use Rattle.gd_run.specs.declared.report.Stop.{Stop}
 use Rattle.gd_run.specs.declared.report.Stop.TheVariants as stop
-use Rattle.gd_world.specs.Shelf.{Files, IsWord, Puts, PutsPart, SameFiles, Word}
+use Rattle.gd_world.specs.Shelf.{Files, IsWord, Puts, PutsPrefix, SameFiles, Word}
 
 pub stores_moved : (ss : List Store) (old mid new : Files) → SameFiles old mid → StoresDone ss mid new → StoresDone ss old new
 stores_moved [] old mid new same done = λ name. done name ∙ same name
 stores_moved (s ∷ ss) old mid new same done = (done.0, record { set = done.1.set; others = λ other apart. done.1.others other apart ∙ same other }, done.2)
 
-part_moved : (old mid new : Files) (name bytes : List ℕ) → SameFiles old mid → PutsPart mid new name bytes → PutsPart old new name bytes
-part_moved old mid new name bytes same part =
-    record { set = elim part.set as (λ _. (new name ≡ old name) ⊎ ((n : ℕ) × (new name ≡ Some (take n bytes)))) [ inl kept ↦ inl (kept ∙ same name) | inr front ↦ inr front ]; others = λ other apart. part.others other apart ∙ same other }
+prefix_moved : (old mid new : Files) (name bytes : List ℕ) → SameFiles old mid → PutsPrefix mid new name bytes → PutsPrefix old new name bytes
+prefix_moved old mid new name bytes same prefix =
+    record { set = elim prefix.set as (λ _. (new name ≡ old name) ⊎ ((n : ℕ) × (new name ≡ Some (take n bytes)))) [ inl kept ↦ inl (kept ∙ same name) | inr taken ↦ inr taken ]; others = λ other apart. prefix.others other apart ∙ same other }
 
 -- ---- a run that ends with its answer
 pub ends_with_answer : (words : List (List ℕ)) (old mid new : Files) (before now : List ℕ) (code : ℕ) (answer : Result Report Stop) (Q : List ℕ → Type 0) → SameFiles old mid
@@ -33,7 +33,7 @@ ends_with_answer words old mid new before now code (Err stop.Memory) Q same is s
 -- ---- a store or a put that failed
 abbrev pub Faulty : Files → Files → List ℕ → List ℕ → Result Report Stop → Type 0
 Faulty mid new before now answer =
-    (HasReport (λ r. IsSomeAnd r.file (λ f. PutsPart mid new f.name.now f.bytes.items)) answer × (now ≡ before))
+    (HasReport (λ r. IsSomeAnd r.file (λ f. PutsPrefix mid new f.name.now f.bytes.items)) answer × (now ≡ before))
     ⊎ (HasReport (λ r. StoresDone (stores_in r.file) mid new × ((n : ℕ) × (now ≡ before ++ take n (string_bytes r.line.text)))) answer
     ⊎ IsUnreadAnd (λ w. (n : ℕ) × (now ≡ before ++ take n (cannot_read_text w))) answer)
 
@@ -41,9 +41,9 @@ abbrev Ending : List (List ℕ) → Files → Files → Word → List ℕ → Li
 Ending words old new failed before now = EndsInStore words old new before now ⊎ EndsInPut words old new failed before now
 
 store_failed : (words : List (List ℕ)) (old mid new : Files) (before now : List ℕ) (r : Report) → SameFiles old mid → IsAnswer words old (answer_in r) → (file : Option NamedFile) → r.file ≡ file
-    → IsSomeAnd file (λ f. PutsPart mid new f.name.now f.bytes.items) → now ≡ before → EndsInStore words old new before now
-store_failed words old mid new before now r same is None file part nothing = absurd part
-store_failed words old mid new before now r same is (Some f) file part nothing = record {
+    → IsSomeAnd file (λ f. PutsPrefix mid new f.name.now f.bytes.items) → now ≡ before → EndsInStore words old new before now
+store_failed words old mid new before now r same is None file prefix nothing = absurd prefix
+store_failed words old mid new before now r same is (Some f) file prefix nothing = record {
   answer = answer_in r;
   is = is;
   done = [];
@@ -52,7 +52,7 @@ store_failed words old mid new before now r same is (Some f) file part nothing =
   order = ap stores_in file;
   mid = old;
   stored = λ name. refl;
-  part = part_moved old mid new f.name.now f.bytes.items same part;
+  prefix = prefix_moved old mid new f.name.now f.bytes.items same prefix;
   nothing = nothing;
 }
 

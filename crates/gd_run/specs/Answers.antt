@@ -11,7 +11,9 @@ use Rattle.gd_check.specs.Written.{body_of_end}
 use Rattle.gd_check.specs.Wrong.{first_wrong}
 use Rattle.gd_form.specs.FlatTask.{direction_at, questions_of}
 use Rattle.gd_points.specs.Points.{points}
+use Rattle.gd_points.specs.Rules as points_rules
 use Rattle.gd_points.specs.Table.{Table}
+use Rattle.gd_points.specs.declared.rule.Rule.TheVariants as rule
 use Rattle.gd_points.specs.declared.table.Row.{Row}
 use Rattle.gd_run.specs.Texts.{accept_text, input_text, invalid_text, open_text, reject_text, valid_text, wrong_words_text}
 use Rattle.gd_run.specs.Words.{Ask, Asks, Check, Flat, ForCheck, ForFlat, IsNoCommand}
@@ -49,7 +51,7 @@ refusal word f = record { text = input_text word f; status = 3 }
 
 -- the fault of a file that is too long
 abbrev pub too_long : InputFault
-too_long = record { code = 17; row = 0; column = 0 }
+too_long = points_rules.fault rule.TooLong 0 0
 
 -- ---- `flat`
 -- what is said of a verdict

@@ -4,7 +4,7 @@ use Rattle.gd_run.specs.Answers.{Answer, IsAnswer, Store}
 use Rattle.gd_run.specs.Claims.{HasTable, IsAccept, IsInvalid, IsReject, IsValid}
 use Rattle.gd_run.specs.Texts.{cannot_read_text}
 use Rattle.gd_run.specs.Words.{Ask, Asks, Flat, ForCheck, ForFlat, IsFlatCommand}
-use Rattle.gd_world.specs.Shelf.{Files, IsWord, Puts, PutsPart, SameFiles, Word}
+use Rattle.gd_world.specs.Shelf.{Files, IsWord, Puts, PutsPrefix, SameFiles, Word}
 
 -- ---- stores
 -- the stores were done, in order, and every other name holds what it held
@@ -68,7 +68,7 @@ pub record FailedToStore (words : List (List ℕ)) (failed : Word) : Type 0 wher
   pub wanted : flat.certificate ≡ Some name
   pub failed_word : IsWord failed name true
 
--- a store of the answer failed: those before it were done, its name holds what it held or a front of its bytes, and nothing was put
+-- a store of the answer failed: those before it were done, its name holds what it held or a prefix of its bytes, and nothing was put
 pub record EndsInStore (words : List (List ℕ)) (old new : Files) (before now : List ℕ) : Type 0 where
   pub answer : Answer
   pub is : IsAnswer words old answer
@@ -78,7 +78,7 @@ pub record EndsInStore (words : List (List ℕ)) (old new : Files) (before now :
   pub order : answer.stores ≡ done ++ store ∷ left
   pub mid : Files
   pub stored : StoresDone done old mid
-  pub part : PutsPart mid new store.0 store.1
+  pub prefix : PutsPrefix mid new store.0 store.1
   pub nothing : now ≡ before
 
 -- a text to put, with the stores before it: those of the answer; none where a file could not be read
@@ -86,7 +86,7 @@ abbrev pub IsToPut : List (List ℕ) → Files → Word → List Store → List 
 IsToPut words files failed stores text =
     ((a : Answer) × IsAnswer words files a × (a.stores ≡ stores) × (a.said.text ≡ text)) ⊎ (IsUnread words files failed text × (stores ≡ []))
 
--- a put of such a text failed: some front of it was appended
+-- a put of such a text failed: some prefix of it was appended
 pub record EndsInPut (words : List (List ℕ)) (old new : Files) (failed : Word) (before now : List ℕ) : Type 0 where
   pub stores : List Store
   pub text : List ℕ

@@ -5,6 +5,5 @@ pub mod Answers
 pub mod Claims
 pub mod Endings
 pub mod Lines
-pub mod Reading
 pub mod Reports
 pub mod Outcomes

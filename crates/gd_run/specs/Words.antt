@@ -59,14 +59,14 @@ abbrev pub IsAskOf : List (List ℕ) → Option Ask → Type 0
 IsAskOf words (Some ask) = Asks words ask
 IsAskOf words None = IsNoCommand words
 
--- what these words behind `flat` ask for, if their numbers are spelled so
+-- what these words after `flat` ask for, if their numbers are spelled so
 abbrev pub IsFlatOf : List ℕ → List ℕ → List ℕ → Option (List ℕ) → Option Ask → Type 0
 IsFlatOf points tolerance budget certificate (Some (ForFlat flat)) =
     (flat.points ≡ points) × IsTolerance tolerance flat.tolerance × IsBudget budget flat.budget × (flat.certificate ≡ certificate)
 IsFlatOf points tolerance budget certificate (Some (ForCheck c)) = ⊥
 IsFlatOf points tolerance budget certificate None = (t b : ℕ) → IsTolerance tolerance t → IsBudget budget b → ⊥
 
--- what these words behind `checkflat` ask for, if the number is spelled so
+-- what these words after `checkflat` ask for, if the number is spelled so
 abbrev pub IsCheckOf : List ℕ → List ℕ → List ℕ → Option Ask → Type 0
 IsCheckOf points tolerance certificate (Some (ForFlat flat)) = ⊥
 IsCheckOf points tolerance certificate (Some (ForCheck c)) = (c.points ≡ points) × IsTolerance tolerance c.tolerance × (c.certificate ≡ certificate)

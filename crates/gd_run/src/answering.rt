@@ -13,8 +13,7 @@ ghost use Rattle.gd_world.specs.Shelf.{IsWord, SameFiles};
 
 use crate::checking::bytes_line;
 use crate::command::{CheckCommand, Command, FlatCommand};
-use crate::judging::{judge_flat, judge_table};
-use crate::points_file::table_in_parts;
+use crate::judging::judge_flat;
 use crate::report::{Report, Stop, only_line};
 use crate::texts::{input_line, invalid_line, too_long_line, wrong_words_line};
 use crate::words::command_of;
@@ -69,8 +68,8 @@ fn check_points<'a, S: Shelf>(
     }
 }
 
-// The answer to `checkflat`, whose points file is loaded and read as a whole.
-fn load_and_check<'a, S: Shelf>(
+// The answer to `checkflat`.
+fn answer_check<'a, S: Shelf>(
     alloc: Global,
     command: &CheckCommand<'a>,
     shelf: &mut S,
@@ -90,27 +89,8 @@ fn load_and_check<'a, S: Shelf>(
     }
 }
 
-// The answer to `checkflat`.
-fn answer_check<'a, R: Threads + Sync, S: Shelf>(
-    rt: &R,
-    alloc: Global,
-    command: &CheckCommand<'a>,
-    shelf: &mut S,
-) -> Result<Report<'a>, Stop<'a>>
-    ensures answer { S.tells ≡ true → OnReport (λ r. IsAnswerTo (ForCheck (check_of command.now)) (S.holds shelf.old) (answer_in r)) (λ w. IsToLoad (ForCheck (check_of command.now)) (S.holds shelf.old) w) result }
-    ensures kind { OnReport IsCheckKind (λ w. IsOfFile (ForCheck (check_of command.now)) w) result }
-    ensures unread { OnReport (λ r. Unit {0}) (λ w. Rose (S.faults shelf.old) (S.faults shelf.new) × IsWord (S.failed shelf.new) w false) result }
-    ensures same { SameFiles (S.holds shelf.old) (S.holds shelf.new) }
-    ensures later { S.faults shelf.old ≤ S.faults shelf.new }
-{
-    match table_in_parts(rt, alloc, &*shelf, command.points) {
-        Some(table) => check_file(alloc, command, &table, shelf),
-        None => load_and_check(alloc, command, shelf),
-    }
-}
-
-// The answer to `flat`, whose points file is loaded and read as a whole.
-fn load_and_judge<'a, R: Threads + Sync, S: Shelf>(
+// The answer to `flat`.
+fn answer_flat<'a, R: Threads + Sync, S: Shelf>(
     rt: &R,
     alloc: Global,
     flat: &FlatCommand<'a>,
@@ -131,25 +111,6 @@ fn load_and_judge<'a, R: Threads + Sync, S: Shelf>(
     }
 }
 
-// The answer to `flat`.
-fn answer_flat<'a, R: Threads + Sync, S: Shelf>(
-    rt: &R,
-    alloc: Global,
-    flat: &FlatCommand<'a>,
-    shelf: &mut S,
-) -> Result<Report<'a>, Stop<'a>>
-    ensures answer { S.tells ≡ true → OnReport (λ r. IsAnswerTo (ForFlat (flat_of flat.now)) (S.holds shelf.old) (answer_in r)) (λ w. Unit {0}) result }
-    ensures kind { OnReport (IsFlatKind (flat_of flat.now)) (λ w. w ≡ (flat_of flat.now).points) result }
-    ensures unread { OnReport (λ r. Unit {0}) (λ w. Rose (S.faults shelf.old) (S.faults shelf.new) × IsWord (S.failed shelf.new) w false) result }
-    ensures same { SameFiles (S.holds shelf.old) (S.holds shelf.new) }
-    ensures later { S.faults shelf.old ≤ S.faults shelf.new }
-{
-    match table_in_parts(rt, alloc, &*shelf, flat.points) {
-        Some(table) => judge_table(rt, alloc, flat, &table),
-        None => load_and_judge(rt, alloc, flat, shelf),
-    }
-}
-
 /// The answer to the words of a run, or the word of a file that could not be read. It changes no file.
 pub fn answer_to<'a, R: Threads + Sync, S: Shelf>(
     rt: &R,
@@ -166,6 +127,6 @@ pub fn answer_to<'a, R: Threads + Sync, S: Shelf>(
     match command_of(words) {
         None => only_line(wrong_words_line(alloc)),
         Some(Command::Flat(flat)) => answer_flat(rt, alloc, &flat, shelf),
-        Some(Command::Check(command)) => answer_check(rt, alloc, &command, shelf),
+        Some(Command::Check(command)) => answer_check(alloc, &command, shelf),
     }
 }

@@ -84,8 +84,8 @@ fn certificate_text(alloc: Global, outcome: Outcome, budget: u32) -> Result<Vec<
     write_cert(alloc, &cert)
 }
 
-/// The answer for the points of a file.
-pub fn judge_table<'a, R: Threads + Sync>(
+// The answer for the points of a file.
+fn judge_table<'a, R: Threads + Sync>(
     rt: &R,
     alloc: Global,
     flat: &FlatCommand<'a>,

@@ -5,7 +5,6 @@ mod answering;
 mod checking;
 mod command;
 mod judging;
-mod points_file;
 mod program;
 mod report;
 #[cfg(test)]

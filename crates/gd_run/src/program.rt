@@ -8,7 +8,7 @@ ghost use Rattle.gd_run.specs.Lines.{stores_in};
 ghost use Rattle.gd_run.specs.Reports.{HasReport, IsPlainStatus, IsUnreadAnd, OnReport};
 ghost use Rattle.gd_run.specs.Texts.{cannot_read_text, wrong_words_text};
 ghost use Rattle.gd_run.specs.Words.{IsNoCommand};
-ghost use Rattle.gd_world.specs.Shelf.{IsWord, PutsPart, SameFiles};
+ghost use Rattle.gd_world.specs.Shelf.{IsWord, PutsPrefix, SameFiles};
 
 use crate::answering::answer_to;
 use crate::report::{NamedFile, Report, Stop};
@@ -23,7 +23,7 @@ fn put_line<O: Sink>(alloc: Global, line: &Line, out: &mut O) -> Status
     ensures said { O.tells ≡ true → result.0 ≢ 6 → result.0 ≢ 7 → O.written out.new ≡ O.written out.old ++ string_bytes line.now.text }
     ensures status { result.0 ≢ 6 → result.0 ≢ 7 → result.0 ≡ line.now.status }
     ensures six { line.now.status ≢ 6 → result.0 ≡ 6 → Rose (O.faults out.old) (O.faults out.new) }
-    ensures part { O.tells ≡ true → line.now.status ≢ 6 → result.0 ≡ 6 → (n : ℕ) × (O.written out.new ≡ O.written out.old ++ take n (string_bytes line.now.text)) }
+    ensures prefix { O.tells ≡ true → line.now.status ≢ 6 → result.0 ≡ 6 → (n : ℕ) × (O.written out.new ≡ O.written out.old ++ take n (string_bytes line.now.text)) }
     ensures seven { O.tells ≡ true → line.now.status ≢ 7 → result.0 ≡ 7 → O.written out.new ≡ O.written out.old }
 {
     match out.put(alloc, line.text.as_bytes()) {
@@ -40,7 +40,7 @@ fn store_file<S: Shelf>(
     shelf: &mut S,
 ) -> Result<(), StoreFault>
     ensures done { S.tells ≡ true → OnOk result (StoresDone (stores_in file.now) (S.holds shelf.old) (S.holds shelf.new)) }
-    ensures part { S.tells ≡ true → IsErrOf result StoreFault.Failed → IsSomeAnd file.now (λ f. PutsPart (S.holds shelf.old) (S.holds shelf.new) f.name.now f.bytes.items) }
+    ensures prefix { S.tells ≡ true → IsErrOf result StoreFault.Failed → IsSomeAnd file.now (λ f. PutsPrefix (S.holds shelf.old) (S.holds shelf.new) f.name.now f.bytes.items) }
     ensures memory { IsErrOf result StoreFault.Memory → SameFiles (S.holds shelf.old) (S.holds shelf.new) }
     ensures rose { IsErrOf result StoreFault.Failed → Rose (S.faults shelf.old) (S.faults shelf.new) }
     ensures word { IsErrOf result StoreFault.Failed → IsSomeAnd file.now (λ f. IsWord (S.failed shelf.new) f.name.now true) }
@@ -66,7 +66,7 @@ fn finish<S: Shelf, O: Sink>(
     ensures stored { S.tells ≡ true → result.0 ≢ 6 → result.0 ≢ 7 → StoresDone (stores_in report.now.file) (S.holds shelf.old) (S.holds shelf.new) }
     ensures six { result.0 ≡ 6 → (Rose (S.faults shelf.old) (S.faults shelf.new) × IsSomeAnd report.now.file (λ f. IsWord (S.failed shelf.new) f.name.now true)) ⊎ Rose (O.faults out.old) (O.faults out.new) }
     ensures fault { S.tells ≡ true → O.tells ≡ true → result.0 ≡ 6
-        → (IsSomeAnd report.now.file (λ f. PutsPart (S.holds shelf.old) (S.holds shelf.new) f.name.now f.bytes.items) × (O.written out.new ≡ O.written out.old))
+        → (IsSomeAnd report.now.file (λ f. PutsPrefix (S.holds shelf.old) (S.holds shelf.new) f.name.now f.bytes.items) × (O.written out.new ≡ O.written out.old))
         ⊎ (StoresDone (stores_in report.now.file) (S.holds shelf.old) (S.holds shelf.new) × ((n : ℕ) × (O.written out.new ≡ O.written out.old ++ take n (string_bytes report.now.line.text)))) }
     ensures seven { O.tells ≡ true → result.0 ≡ 7 → O.written out.new ≡ O.written out.old }
     ensures want { S.tells ≡ true → result.0 ≡ 7 → SameFiles (S.holds shelf.old) (S.holds shelf.new) ⊎ StoresDone (stores_in report.now.file) (S.holds shelf.old) (S.holds shelf.new) }
@@ -95,7 +95,7 @@ fn end<S: Shelf, O: Sink>(
     ensures untouched { IsUnreadAnd (λ w. Unit {0}) answer.entry → shelf.new ≡ shelf.old }
     ensures six { result.0 ≡ 6 → (Rose (S.faults shelf.old) (S.faults shelf.new) × HasReport (λ r. IsSomeAnd r.file (λ f. IsWord (S.failed shelf.new) f.name.now true)) answer.entry) ⊎ Rose (O.faults out.old) (O.faults out.new) }
     ensures fault { S.tells ≡ true → O.tells ≡ true → result.0 ≡ 6
-        → (HasReport (λ r. IsSomeAnd r.file (λ f. PutsPart (S.holds shelf.old) (S.holds shelf.new) f.name.now f.bytes.items)) answer.entry × (O.written out.new ≡ O.written out.old))
+        → (HasReport (λ r. IsSomeAnd r.file (λ f. PutsPrefix (S.holds shelf.old) (S.holds shelf.new) f.name.now f.bytes.items)) answer.entry × (O.written out.new ≡ O.written out.old))
         ⊎ (HasReport (λ r. StoresDone (stores_in r.file) (S.holds shelf.old) (S.holds shelf.new) × ((n : ℕ) × (O.written out.new ≡ O.written out.old ++ take n (string_bytes r.line.text)))) answer.entry
         ⊎ IsUnreadAnd (λ w. (n : ℕ) × (O.written out.new ≡ O.written out.old ++ take n (cannot_read_text w))) answer.entry) }
     ensures seven { O.tells ≡ true → result.0 ≡ 7 → O.written out.new ≡ O.written out.old }
@@ -154,7 +154,7 @@ pub fn run<R: Threads + Sync, S: Shelf, O: Sink>(
     ensures unread { S.tells ≡ true → O.tells ≡ true → result.0 ≡ 5
         → Prints (IsUnread (map string_bytes words.now.items) (S.holds shelf.old) (S.failed shelf.new)) (O.written out.old) (O.written out.new) }
 
-    // Status 6 comes only where the store of a certificate failed, or the put. What was done before stands, and a front of the
+    // Status 6 comes only where the store of a certificate failed, or the put. What was done before stands, and a prefix of the
     // bytes or of the text may.
     ensures six { result.0 ≡ 6 → (Rose (S.faults shelf.old) (S.faults shelf.new) × FailedToStore (map string_bytes words.now.items) (S.failed shelf.new)) ⊎ Rose (O.faults out.old) (O.faults out.new) }
     ensures fault { S.tells ≡ true → O.tells ≡ true → result.0 ≡ 6

@@ -133,15 +133,15 @@ fn calls_fail_in_turn(rt: HostRuntime) -> Result<(), Fail> {
         (check, "x", (0, 0, 0), 8, "invalid line 1 code 45\n", "x"),
         (check, "x", (0, 0, 1), 6, "invalid lin", "x"),
     ];
-    for (line, before, (call, part, put), status, text, after) in cases {
+    for (line, before, (call, prefix, put), status, text, after) in cases {
         let words = words_of(alloc, line)?;
         let mut shelf = shelf_of(alloc, CORNER, before)?;
         shelf.fail.push(call)?;
-        shelf.part = part;
+        shelf.prefix = prefix;
         let mut out = MemSink::new(alloc);
         out.fail.push(put)?;
         let ended = run(&rt, alloc, &words, &mut shelf, &mut out);
-        let case = (call, part, put);
+        let case = (call, prefix, put);
         assert_eq!(rt; ended.0, status, "{line}, {case:?}");
         assert_eq!(rt; out.bytes.as_slice(), text.as_bytes(), "{line}, {case:?}");
         assert_eq!(rt; held(&shelf, "c"), after.as_bytes(), "{line}, {case:?}");

@@ -12,6 +12,7 @@ ghost use Rattle.gd_search.specs.Outcomes.{end_of};
 use gd_base::{InputFault, Reason};
 use gd_cells::Witness;
 use gd_dir::direction;
+use gd_points::Rule;
 use gd_search::{Outcome, leaves};
 use gd_vec::V3;
 use std::alloc::{AllocError, Global};
@@ -55,16 +56,11 @@ pub fn input_line(alloc: Global, word: &str, fault: InputFault) -> Result<Line, 
     Ok(Line { text, status: 3 })
 }
 
-/// A points file is longer than a file may be: code 17.
+/// A points file is longer than a file may be.
 pub fn too_long_line(alloc: Global, word: &str) -> Result<Line, AllocError>
     ensures { IfOk result (λ line. said_in line ≡ refusal word.now too_long) }
 {
-    let fault = InputFault {
-        code: 17,
-        row: 0,
-        column: 0,
-    };
-    input_line(alloc, word, fault)
+    input_line(alloc, word, Rule::TooLong.fault(0, 0))
 }
 
 /// A certificate is valid.

@@ -10,7 +10,7 @@ use Rattle.gd_run.specs.Reports.{IsCheckKind, OnReport}
 use Rattle.gd_run.specs.Words.{Check, ForCheck}
 use Rattle.gd_run.specs.declared.report.Report.{Report}
 use Rattle.gd_world.specs.Shelf.{Files}
-use Rattle.gd_run.proofs.answering.load_and_check.Goals as goal
+use Rattle.gd_run.proofs.answering.answer_check.Goals as goal
 
 pub returns-in-Ok-clause-answer : goal.returns-in-Ok-clause-answer
 returns-in-Ok-clause-answer g c = λ s.

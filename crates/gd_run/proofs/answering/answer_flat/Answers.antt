@@ -5,7 +5,7 @@ use Rattle.gd_run.specs.Commands.{flat_of}
 use Rattle.gd_run.specs.Lines.{answer_in}
 use Rattle.gd_run.specs.Reports.{IsFlatKind}
 use Rattle.gd_run.specs.Words.{ForFlat}
-use Rattle.gd_run.proofs.answering.load_and_judge.Goals as goal
+use Rattle.gd_run.proofs.answering.answer_flat.Goals as goal
 
 pub returns-in-Err-TooLong-clause-answer : goal.returns-in-Err-TooLong-clause-answer
 returns-in-Err-TooLong-clause-answer g c = λ s.

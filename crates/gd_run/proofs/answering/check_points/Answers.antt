@@ -9,8 +9,8 @@ use Rattle.gd_run.specs.Lines.{answer_in}
 use Rattle.gd_run.specs.Reports.{IsCheckKind}
 use Rattle.gd_run.proofs.answering.check_points.Goals as goal
 
-pub check_file-requires-after_bounds : goal.check_file-requires-after_bounds
-check_file-requires-after_bounds g c = λ κs lives. table_has_row c.args.bytes.now c.in-Ok.table c.in-Ok.ensures
+pub check_file-requires : goal.check_file-requires
+check_file-requires g c = table_has_row c.args.bytes.now c.in-Ok.table c.in-Ok.ensures
 
 pub returns-in-Err-Input-clause-answer : goal.returns-in-Err-Input-clause-answer
 returns-in-Err-Input-clause-answer g c = λ s.

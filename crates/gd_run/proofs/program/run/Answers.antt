@@ -9,18 +9,6 @@ use Rattle.gd_run.specs.Reports.{IsUnreadIn, OnReport}
 use Rattle.gd_world.specs.Shelf.{Files, SameFiles}
 use Rattle.gd_run.proofs.program.run.Goals as goal
 
-pub returns-clause-answer : goal.returns-clause-answer
-returns-clause-answer g c = λ s o loaded stored put.
-    let words : List (List ℕ) = map string_bytes c.args.words.now.items in
-    let old : Files = g.S.Shelf.holds c.args.shelf.now in
-    let mid : Files = g.S.Shelf.holds c.answer_to-answer.new.shelf in
-    let new : Files = g.S.Shelf.holds c.end.new.shelf in
-    let before : List ℕ = g.O.Sink.written c.args.out.now in
-    let now : List ℕ = g.O.Sink.written c.end.new.out in
-    let answered : OnReport (λ r. IsAnswer words old (answer_in r)) (λ w. IsUnreadIn words old w) c.answer_to-answer.result = rw c.as_slice.ensures.value at (c.answer_to-answer.ensures.answer s) in
-    ends_with_answer words old mid new before now c.end.result.0 c.answer_to-answer.result (λ w. IsUnreadIn words old w) c.answer_to-answer.ensures.same answered
-    (c.end.ensures.status loaded stored put) (c.end.ensures.written o loaded stored put) (c.end.ensures.stored s loaded stored put)
-
 pub returns-clause-zero : goal.returns-clause-zero
 returns-clause-zero g c = λ s o zero.
     let words : List (List ℕ) = map string_bytes c.args.words.now.items in
