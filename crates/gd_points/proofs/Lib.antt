@@ -7,3 +7,4 @@ pub mod Used
 mod KnownValues
 pub mod Tables
 pub mod More
+pub mod Ordered

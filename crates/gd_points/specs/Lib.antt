@@ -2,6 +2,7 @@ pub mod Numbers
 pub mod Rules
 pub mod Table
 pub mod Columns
+pub mod Index
 pub mod Points
 pub mod Named
 pub mod Fields

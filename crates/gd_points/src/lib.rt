@@ -2,6 +2,7 @@
 #![tactic(auto)]
 
 mod columns;
+mod index;
 mod number;
 mod read;
 mod rule;
@@ -10,6 +11,7 @@ mod table;
 mod tests;
 
 pub use columns::Columns;
+pub use index::PointIndex;
 pub use read::read_points;
 pub use rule::Rule;
 pub use table::{Named, PointTable, Row};

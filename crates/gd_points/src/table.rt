@@ -1,13 +1,13 @@
 // The table of points.
 ghost use Rattle.std.specs.Prelude.{◌≡◌, ◌<◌, ◌≤◌, ◌^◌, length, OnOk, OnErr, slice_get, Some, IfOk, IfSome, position};
-ghost use Rattle.std.specs.Prelude.{nat_eq, true, ◌==◌};
+ghost use Rattle.std.specs.Prelude.{map, nat_eq, true, ◌==◌};
 ghost use Rattle.indexmap.specs.IndexSet.{insert_key};
 ghost use Rattle.gd_points.specs.Named.{IsNamed, name_in};
 ghost use Rattle.gd_points.specs.Table.{AreNames};
 ghost use Rattle.gd_base.specs.Names.{is_name};
 ghost use Rattle.std.specs.Cmp.Lexicographic.{pointwise};
 ghost use Rattle.std.specs.List.{All, Any, IsDistinct, position_or_len};
-ghost use Rattle.gd_points.specs.Columns.{AreColumns};
+ghost use Rattle.gd_points.specs.Columns.{AreColumns, label_of};
 ghost use Rattle.gd_vec.specs.Vector.{IsWithin};
 
 use crate::columns::{ColumnLists, Columns};
@@ -37,11 +37,11 @@ pub enum Named {
     Other(Name),
 }
 
-// The feature and the group of a point, by their numbers.
+/// The feature and the group of a point, by their numbers.
 #[derive(Clone, Copy)]
-struct Label {
-    feature: u32,
-    group: u32,
+pub(crate) struct Label {
+    pub feature: u32,
+    pub group: u32,
 }
 
 /// The points of a part, in order, and the names of their features in the order of their first points.
@@ -169,6 +169,15 @@ impl PointTable {
             group: label.group,
             at: self.columns.at(at),
         })
+    }
+
+    /// The features and the groups of the points in order.
+    pub(crate) fn labels(&self) -> &[Label]
+        ensures labels { result.now ≡ map label_of self.now.rows }
+        ensures few { length result.now ≤ 200000 }
+        ensures groups { All (λ row. row.group ≤ 999) self.now.rows }
+    {
+        self.labels.as_slice()
     }
 
     /// The coordinates of the points in order.

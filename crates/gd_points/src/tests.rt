@@ -1,5 +1,5 @@
 // Small files with their tables and faults, worked by hand from the grammar of docs/FORMATS.md.
-use crate::{Row, read_points};
+use crate::{PointIndex, Row, read_points};
 use gd_base::{InputFault, Name, ReadFault};
 use gd_vec::V3;
 use std::alloc::{AllocError, Global};
@@ -105,5 +105,28 @@ fn a_table(rt: HostRuntime) {
             .expect(&rt, "memory")
             .expect(&rt, "a name");
         assert_eq!(rt; table.find(&name), place);
+    }
+}
+
+#[test]
+fn an_index(rt: HostRuntime) {
+    let lines = b"a,7,0,0,0\nb,5,0,0,0\na,5,0,0,0\nc,5,0,0,0\na,7,0,0,0\n";
+    let file = with_header(rt.alloc(), lines).expect(&rt, "memory");
+    let table = read_points(rt.alloc(), file.as_slice()).expect(&rt, "a table");
+    let index = PointIndex::of(rt.alloc(), &table).expect(&rt, "memory");
+    let cases: [(u32, Option<u32>, &[u32]); 6] = [
+        (0, None, &[0, 2, 4]),
+        (2, None, &[3]),
+        (3, None, &[]),
+        (0, Some(7), &[0, 4]),
+        (1, Some(5), &[1]),
+        (1, Some(7), &[]),
+    ];
+    for (feature, group, want) in cases {
+        let found = match group {
+            None => index.rows_of(feature),
+            Some(group) => index.rows_of_group(feature, group),
+        };
+        assert_eq!(rt; found, want, "{feature} {group:?}");
     }
 }

@@ -1,4 +1,3 @@
-use Rattle.std.proofs.Common.{rules}
 use Rattle.gd_points.proofs.Again.{names_again, number_again}
 use Rattle.gd_points.proofs.table.number_for.Goals as goal
 
