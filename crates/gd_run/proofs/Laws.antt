@@ -1,5 +1,6 @@
 -- Laws of how a run ends.
 use Rattle.std.proofs.Common.{arith, ◌≡◌, ◌≢◌, ◌∙◌, ap, sym, ℕ, ◌≤◌, ◌⊎◌, ◌++◌, inl, inr, true, List, []}
+use Rattle.gd_base.specs.Causes.{Rose}
 use Rattle.gd_report.specs.Said.{status_of}
 use Rattle.gd_report.specs.Texts.{wrong_words_text}
 use Rattle.gd_run.specs.Answers.{Answer}
@@ -43,6 +44,11 @@ possible_range : (words : List (List ℕ)) (a : Answer) → IsPossible words a �
 possible_range words a (inl wrong) = let four : status_of a.said.ending ≡ 4 = ap (λ (b : Answer). status_of b.said.ending) wrong.1 in omega (arith, four)
 possible_range words a (inr other) = elim other.2.ending as (λ _. status_of a.said.ending ≤ 8) [ inl low ↦ omega (arith, low) | inr eight ↦ omega (arith, eight) ]
 
+-- no answer has the status of a fault
+fault_is_no_answer : (words : List (List ℕ)) (a : Answer) → IsPossible words a → (code : ℕ) → status_of a.said.ending ≡ code → 5 ≤ code → code ≤ 7 → ⊥
+fault_is_no_answer words a (inl wrong) code is low high = let four : status_of a.said.ending ≡ 4 = ap (λ (b : Answer). status_of b.said.ending) wrong.1 in omega (arith, four, is, low)
+fault_is_no_answer words a (inr other) code is low high = elim other.2.ending as (λ _. ⊥) [ inl few ↦ omega (arith, few, is, low) | inr eight ↦ omega (arith, eight, is, high) ]
+
 -- ---- wrong words
 pub four_is_wrong : (c : Course) (code : ℕ) → Ends c code → code ≡ 4 → IsNoCommand c.words × (c.sink_tells ≡ true → c.now ≡ c.before ++ wrong_words_text)
 four_is_wrong c code ends four =
@@ -67,3 +73,24 @@ pub in_range : (c : Course) (code : ℕ) → Ends c code → code ≤ 8
 in_range c code ends = each_end c code ends
     (λ e. omega (arith, e.status, possible_range c.words e.answer e.has.possible))
     (λ e. omega (arith, e.status)) (λ e. omega (arith, e.status)) (λ e. omega (arith, e.status)) (λ e. omega (arith, e.status))
+
+-- ---- causes
+pub load_failed : (c : Course) (code : ℕ) → Ends c code → code ≡ 5 → EndsUnread c code
+load_failed c code ends five = each_end c code ends
+    (λ e. absurd (fault_is_no_answer c.words e.answer e.has.possible 5 (sym e.status ∙ five) (omega arith) (omega arith)))
+    (λ e. e)
+    (λ e. absurd (omega (arith, e.status, five))) (λ e. absurd (omega (arith, e.status, five))) (λ e. absurd (omega (arith, e.status, five)))
+
+pub write_failed : (c : Course) (code : ℕ) → Ends c code → code ≡ 6 → Rose c.shelf_faults.0 c.shelf_faults.1 ⊎ Rose c.sink_faults.0 c.sink_faults.1
+write_failed c code ends six = each_end c code ends
+    (λ e. absurd (fault_is_no_answer c.words e.answer e.has.possible 6 (sym e.status ∙ six) (omega arith) (omega arith)))
+    (λ e. absurd (omega (arith, e.status, six)))
+    (λ e. inl e.rose) (λ e. inr e.rose)
+    (λ e. absurd (omega (arith, e.status, six)))
+
+pub nothing_put : (c : Course) (code : ℕ) → Ends c code → c.sink_tells ≡ true → code ≡ 7 → c.now ≡ c.before
+nothing_put c code ends told seven = each_end c code ends
+    (λ e. absurd (fault_is_no_answer c.words e.answer e.has.possible 7 (sym e.status ∙ seven) (omega arith) (omega arith)))
+    (λ e. absurd (omega (arith, e.status, seven)))
+    (λ e. absurd (omega (arith, e.status, seven))) (λ e. absurd (omega (arith, e.status, seven)))
+    (λ e. e.nothing told)

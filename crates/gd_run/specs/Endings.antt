@@ -117,6 +117,12 @@ pub record Answers (words : List (List ℕ)) (old new : Files) (before now : Lis
   pub stored : StoresDone answer.stores old new
   pub written : now ≡ before ++ answer.said.text
 
+-- the load that failed is that of a file which the words ask to read
+pub record FailedToRead (words : List (List ℕ)) (failed : Word) : Type 0 where
+  pub word : List ℕ
+  pub to_read : IsToRead words word
+  pub failed_word : IsWord failed word false
+
 -- the run printed something that is so
 pub record Prints (Says : List ℕ → Type 0) (before now : List ℕ) : Type 0 where
   pub printed : List ℕ

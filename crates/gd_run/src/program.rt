@@ -8,7 +8,7 @@ ghost use Rattle.gd_report.specs.Texts.{cannot_read_text, wrong_words_text};
 ghost use Rattle.gd_report.specs.declared.ending.Ending.TheVariants as ending;
 ghost use Rattle.gd_run.specs.Asks.{IsNoCommand, inputs_of};
 ghost use Rattle.gd_run.specs.Claims.{IsInvalid, IsReject, LeavesValid, StoresValid};
-ghost use Rattle.gd_run.specs.Endings.{Answers, CallsFew, Ends, EndsInZero, Prints, ReadsFew, StoresDone};
+ghost use Rattle.gd_run.specs.Endings.{Answers, CallsFew, Ends, EndsInZero, FailedToRead, Prints, ReadsFew, StoresDone};
 ghost use Rattle.gd_run.specs.Inputs.{IsTurn, IsWordOf, nothing_given};
 ghost use Rattle.gd_run.specs.Reports.{HasReport, IsPlain, IsUnreadAnd, OnReport, PutFails, StoreFails, stores_wanted};
 ghost use Rattle.gd_run.specs.Runs.{IsAnswer, IsAnswerOf, IsAnswerTo, IsNext, IsPossible, IsToRead};
@@ -267,6 +267,15 @@ pub fn run<R: Threads + Sync, S: Shelf, O: Sink>(
     ensures four { result.0 ≡ 4 → IsNoCommand (map string_bytes words.now.items) }
     ensures wrong_words { IsNoCommand (map string_bytes words.now.items) → result.0 ≢ 6 → result.0 ≢ 7 → result.0 ≡ 4 }
     ensures wrong_text { O.tells ≡ true → result.0 ≡ 4 → O.written out.new ≡ O.written out.old ++ wrong_words_text }
+
+    // Status 5 comes only where a load of this run failed: that of a file which the words name. Status 6 comes only where a
+    // store failed, or the put.
+    ensures five { result.0 ≡ 5 → Rose (S.faults shelf.old) (S.faults shelf.new) }
+    ensures word { result.0 ≡ 5 → FailedToRead (map string_bytes words.now.items) (S.failed shelf.new) }
+    ensures six { result.0 ≡ 6 → Rose (S.faults shelf.old) (S.faults shelf.new) ⊎ Rose (O.faults out.old) (O.faults out.new) }
+
+    // Want of memory puts nothing.
+    ensures seven { O.tells ≡ true → result.0 ≡ 7 → O.written out.new ≡ O.written out.old }
 
     // No status but 0, 1, 2, 6 and 7 comes with a change of a file.
     ensures same { result.0 ≢ 0 → result.0 ≢ 1 → result.0 ≢ 2 → result.0 ≢ 6 → result.0 ≢ 7 → SameFiles (S.holds shelf.old) (S.holds shelf.new) }
