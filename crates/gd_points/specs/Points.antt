@@ -2,6 +2,7 @@
 use Rattle.std.specs.Prelude.{ℕ, ◌+◌, ◌≡◌, ℤ, pos, negsuc, Bool, false, List, [], ◌∷◌, Option, Some, None, Result, Ok}
 use Rattle.std.specs.Prelude.{Err, length, nat_lt, nat_eq, ◌==◌, ◌&&◌, int_le, unsigned_abs, codes, if◌then◌else◌}
 use Rattle.std.specs.Cmp.Lexicographic.{pointwise}
+use Rattle.gd_base.specs.Limits.{COORDINATE, POINTS}
 use Rattle.csv.specs.Reading.{default_config, records, strip_bom}
 use Rattle.gd_base.specs.Names.{name_of}
 use Rattle.gd_base.specs.declared.fault.InputFault.{InputFault}
@@ -47,7 +48,7 @@ group_in row field = and_then_read (number_in row 2 (pos 0) (pos 999) field) (λ
 
 -- a coordinate is a number from -8,000,000 to 8,000,000
 abbrev pub coordinate_in : ℕ → ℕ → List ℕ → Result ℤ InputFault
-coordinate_in row column field = number_in row column (negsuc 7999999) (pos 8000000) field
+coordinate_in row column field = number_in row column (negsuc 7999999) (pos COORDINATE) field
 
 -- the three coordinates, from left to right
 abbrev pub place_in : ℕ → Five → Result V3 InputFault
@@ -76,7 +77,7 @@ next_row t = length t.rows + 2
 abbrev pub with_record : Table → List (List ℕ) → Result Table InputFault
 with_record t fields =
     and_then_read (or_fault (five_of fields) (fault rule.Fields (next_row t) 0)) (λ five.
-    if nat_lt (length t.rows) 200000
+    if nat_lt (length t.rows) POINTS
     then and_then_read (point_in (next_row t) five) (λ p. Ok (with_point t p.name p.group p.at))
     else Err (fault rule.TooManyPoints (next_row t) 0))
 

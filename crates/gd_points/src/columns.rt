@@ -1,6 +1,7 @@
 // The coordinates of points, axis by axis.
 ghost use Rattle.std.specs.Prelude.{◌≡◌, ◌≤◌, ◌<◌, ◌++◌, [], ◌∷◌, OnOk, vec_capacity, vec_len, unsigned_abs, get_or};
 ghost use Rattle.std.specs.Prelude.{pos};
+ghost use Rattle.gd_base.specs.Limits.{COORDINATE};
 ghost use Rattle.gd_vec.specs.Vector.{IsWithin};
 
 use gd_vec::V3;
@@ -28,7 +29,7 @@ pub struct ColumnLists {
 // A coordinate in 32 bits.
 #[inline]
 fn short(coordinate: i64) -> i32
-    requires { unsigned_abs coordinate ≤ 8000000 }
+    requires { unsigned_abs coordinate ≤ COORDINATE }
     ensures { result ≡ coordinate }
 {
     coordinate as i32

@@ -1,6 +1,7 @@
 // The points of a feature, found without a look at the whole table.
 ghost use Rattle.std.specs.Prelude.{◌≡◌, ◌<◌, ◌≤◌, IfOk, length, map, filter, ◌==◌};
 ghost use Rattle.std.specs.List.{All, range_with_len};
+ghost use Rattle.gd_base.specs.Limits.{POINTS};
 ghost use Rattle.gd_points.specs.Columns.{label_of};
 ghost use Rattle.gd_points.specs.Index.{IsOrdered, is_of, is_of_group, key_at, key_of, numbers_where};
 ghost use Rattle.gd_points.specs.declared.index.OrderBy.TheVariants as by;
@@ -63,7 +64,7 @@ fn key_at(order: OrderBy, labels: &[Label], number: u32) -> u64
 
 // The numbers of all points, ordered by their keys.
 fn ordered(alloc: Global, order: OrderBy, labels: &[Label]) -> Result<Vec<u32>, AllocError>
-    requires { length labels.now ≤ 200000 }
+    requires { length labels.now ≤ POINTS }
     ensures { IfOk result (λ v. IsOrdered order labels.now v.items) }
 {
     let mut numbers = numbers_below(alloc, labels.len() as u32)?;

@@ -1,6 +1,7 @@
 // The reader of a points file.
 ghost use Rattle.std.specs.Prelude.{◌≡◌, ◌<◌, ◌≤◌, ◌≤ℤ◌, ◌<ℤ◌, ℤ, pos, negsuc, Some, None, IfOk, length, option_map};
 ghost use Rattle.std.specs.Prelude.{unsigned_abs};
+ghost use Rattle.gd_base.specs.Limits.{COORDINATE};
 ghost use Rattle.csv.specs.Reading.{default_config, records, strip_bom};
 ghost use Rattle.csv.specs.Records.{fields_of, field_at};
 ghost use Rattle.gd_base.specs.Names.{name_of};
@@ -17,8 +18,7 @@ ghost use Rattle.gd_vec.specs.Vector.{IsWithin};
 use crate::number::read_number;
 use crate::{Named, PointTable, Rule};
 use csv::{ByteRecord, Reader, ReaderBuilder};
-use gd_base::limits::{COORDINATE, GROUP, POINTS};
-use gd_base::{Name, ReadFault};
+use gd_base::{Name, ReadFault, limits};
 use gd_vec::V3;
 use std::alloc::Global;
 
@@ -145,7 +145,7 @@ fn add_record(alloc: Global, table: &mut PointTable, entry: &ByteRecord) -> Resu
     let Some(fields) = fields_in(entry) else {
         return Err(Rule::Fields.broken_at(row, 0));
     };
-    if count >= POINTS {
+    if count >= limits::POINTS {
         return Err(Rule::TooManyPoints.broken_at(row, 0));
     }
     let point = read_point(alloc, table, &fields, row)?;
@@ -213,7 +213,7 @@ fn read_group(field: &[u8], row: u32) -> Result<u32, ReadFault>
     ensures answers { Answers (λ group. group) result (group_in row field.now) }
     ensures within { IfOk result (λ group. group ≤ 999) }
 {
-    let group = read_within(field, row, 2, 0, i64::from(GROUP))?;
+    let group = read_within(field, row, 2, 0, i64::from(limits::GROUP))?;
     Ok(group.unsigned_abs() as u32)
 }
 
@@ -229,9 +229,9 @@ fn read_place(fields: &Fields<'_>, row: u32) -> Result<V3, ReadFault>
 
 fn read_coordinate(field: &[u8], row: u32, column: u32) -> Result<i64, ReadFault>
     ensures answers { Answers (λ x. x) result (coordinate_in row column field.now) }
-    ensures within { IfOk result (λ x. unsigned_abs x ≤ 8000000) }
+    ensures within { IfOk result (λ x. unsigned_abs x ≤ COORDINATE) }
 {
-    read_within(field, row, column, -COORDINATE, COORDINATE)
+    read_within(field, row, column, -limits::COORDINATE, limits::COORDINATE)
 }
 
 // The number of a field, from `low` to `high`.

@@ -7,6 +7,7 @@ ghost use Rattle.gd_points.specs.Table.{AreNames};
 ghost use Rattle.gd_base.specs.Names.{is_name};
 ghost use Rattle.std.specs.Cmp.Lexicographic.{pointwise};
 ghost use Rattle.std.specs.List.{All, Any, IsDistinct, position_or_len};
+ghost use Rattle.gd_base.specs.Limits.{POINTS};
 ghost use Rattle.gd_points.specs.Columns.{AreColumns, label_of};
 ghost use Rattle.gd_vec.specs.Vector.{IsWithin};
 
@@ -72,7 +73,7 @@ impl Model for PointTable {
 
 // The number of a feature. A name that is new gets the next one.
 fn number_for(names: &mut IndexSet<Name>, named: Named) -> Result<u32, Memory>
-    requires few { length names.old.keys < 200000 }
+    requires few { length names.old.keys < POINTS }
     requires spelled { AreNames names.old.keys }
     requires distinct { IsDistinct (pointwise nat_eq) names.old.keys }
     requires named { IsNamed names.old.keys named }
@@ -111,7 +112,7 @@ impl PointTable {
     /// A name that is new gets the next feature number. `group` is at most 999, the coordinates are in units of 0.1
     /// micrometre and within 8,000,000, and there are fewer than 200,000 points. On `Memory` the table is as it was.
     pub fn push(&mut self, named: Named, group: u32, at: V3) -> Result<(), Memory>
-        requires room { length self.old.rows < 200000 }
+        requires room { length self.old.rows < POINTS }
         requires named { IsNamed self.old.names named }
         requires group { group ≤ 999 }
         requires within { IsWithin 8000000 at }
@@ -144,7 +145,7 @@ impl PointTable {
     #[inline]
     pub fn len(&self) -> usize
         ensures count { result ≡ length self.now.rows }
-        ensures few { result ≤ 200000 }
+        ensures few { result ≤ POINTS }
     {
         self.labels.len()
     }
@@ -174,7 +175,7 @@ impl PointTable {
     /// The features and the groups of the points in order.
     pub(crate) fn labels(&self) -> &[Label]
         ensures labels { result.now ≡ map label_of self.now.rows }
-        ensures few { length result.now ≤ 200000 }
+        ensures few { length result.now ≤ POINTS }
         ensures groups { All (λ row. row.group ≤ 999) self.now.rows }
     {
         self.labels.as_slice()
@@ -183,7 +184,7 @@ impl PointTable {
     /// The coordinates of the points in order.
     pub fn columns(&self) -> Columns<'_>
         ensures columns { AreColumns result.x.now result.y.now result.z.now self.now.rows }
-        ensures few { length self.now.rows ≤ 200000 }
+        ensures few { length self.now.rows ≤ POINTS }
         ensures within { All (λ row. IsWithin 8000000 row.at) self.now.rows }
     {
         Columns {

@@ -1,5 +1,6 @@
 // Entries of names and bytes, of which the first of a name counts.
 ghost use Rattle.std.specs.Prelude.{◌≡◌, ◌≤◌, ◌<◌, ◌∷◌, [], length, option_map, OnOk, OnErr, IsErrOf};
+ghost use Rattle.gd_base.specs.Limits.{FILE_BYTES};
 ghost use Rattle.gd_world.specs.Shelf.{held};
 
 use crate::LoadFault;
@@ -35,8 +36,8 @@ pub(crate) fn put_first(
 pub(crate) fn copy_held(bytes: &[u8], into: &mut Vec<u8>) -> Result<(), LoadFault>
     requires { into.old.items ≡ [] }
     ensures bytes { OnOk result (into.new.items ≡ bytes.now) }
-    ensures short { OnOk result (length into.new.items ≤ 134217728) }
-    ensures long { IsErrOf result LoadFault.TooLong → 134217728 < length bytes.now }
+    ensures short { OnOk result (length into.new.items ≤ FILE_BYTES) }
+    ensures long { IsErrOf result LoadFault.TooLong → FILE_BYTES < length bytes.now }
     ensures sure { ¬ IsErrOf result LoadFault.Failed }
     ensures refused { OnErr result (into.new.items ≡ []) }
 {

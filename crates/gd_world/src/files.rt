@@ -1,5 +1,6 @@
 // The files of the system. No clause tells what they hold.
 ghost use Rattle.std.specs.Prelude.{◌≡◌, ◌+◌, ◌≤◌, ℕ, [], false, None, length, OnOk};
+ghost use Rattle.gd_base.specs.Limits.{FILE_BYTES};
 ghost use Rattle.gd_world.specs.Memory.{one_more};
 
 use crate::streams::{read_all, write_all};
@@ -54,7 +55,7 @@ fn read_file<R: Files>(
     into: &mut Vec<u8>,
 ) -> Result<(), LoadFault>
     requires { into.old.items ≡ [] }
-    ensures { OnOk result (length into.new.items ≤ 134217728) }
+    ensures { OnOk result (length into.new.items ≤ FILE_BYTES) }
 {
     match fs::open(rt, name) {
         Ok(mut file) => read_all(alloc, &mut file, into),

@@ -1,6 +1,7 @@
 // A shelf in memory, whose calls fail where a list says so.
 ghost use Rattle.std.specs.Prelude.{◌≡◌, ◌⊎◌, ◌≤◌, ◌<◌, ◌+◌, ◌∷◌, ℕ, [], true, false, Some, None, take, length, OnOk, OnErr};
 ghost use Rattle.std.specs.Prelude.{IsSomeAnd, IsErrOf};
+ghost use Rattle.gd_base.specs.Limits.{FILE_BYTES};
 ghost use Rattle.gd_world.specs.Memory.{is_due, one_more, LoadCause, StoreCause};
 ghost use Rattle.gd_world.specs.Shelf.{held, Puts, LoadWord, StoreWord};
 
@@ -104,9 +105,9 @@ impl Shelf for MemShelf {
 
     fn load(&mut self, alloc: Global, name: &str, into: &mut Vec<u8>) -> Result<(), LoadFault>
         ensures bytes { OnOk result (held self.old.files.items name.now ≡ Some into.new.items) }
-        ensures short { OnOk result (length into.new.items ≤ 134217728) }
+        ensures short { OnOk result (length into.new.items ≤ FILE_BYTES) }
         ensures long { IsErrOf result LoadFault.TooLong
-            → IsSomeAnd (held self.old.files.items name.now) (λ bytes. 134217728 < length bytes) }
+            → IsSomeAnd (held self.old.files.items name.now) (λ bytes. FILE_BYTES < length bytes) }
         ensures cause { LoadCause (is_due self.old.fail.items self.old.calls)
             (held self.old.files.items name.now) result }
         ensures refused { OnErr result (into.new.items ≡ []) }

@@ -1,6 +1,7 @@
 // The trait of what names hold, and why its calls are refused.
 ghost use Rattle.std.specs.Prelude.{◌≡◌, ◌+◌, ◌≤◌, ◌<◌, ℕ, [], Bool, true, Some, None, length, OnOk, OnErr, IsSomeAnd};
 ghost use Rattle.std.specs.Prelude.{IsErrOf};
+ghost use Rattle.gd_base.specs.Limits.{FILE_BYTES};
 ghost use Rattle.gd_base.specs.Causes.{Rose};
 ghost use Rattle.gd_world.specs.declared.shelf.LoadFault.TheVariants as load_fault;
 ghost use Rattle.gd_world.specs.declared.shelf.StoreFault.TheVariants as store_fault;
@@ -78,9 +79,9 @@ pub trait Shelf {
     /// there is no room. After each of them `into` is empty.
     fn load(&mut self, alloc: Global, name: &str, into: &mut Vec<u8>) -> Result<(), LoadFault>
         ensures bytes { tells ≡ true → OnOk result (holds self.old name.now ≡ Some into.new.items) }
-        ensures short { OnOk result (length into.new.items ≤ 134217728) }
+        ensures short { OnOk result (length into.new.items ≤ FILE_BYTES) }
         ensures long { tells ≡ true → IsErrOf result LoadFault.TooLong
-            → IsSomeAnd (holds self.old name.now) (λ bytes. 134217728 < length bytes) }
+            → IsSomeAnd (holds self.old name.now) (λ bytes. FILE_BYTES < length bytes) }
         ensures missing { tells ≡ true → holds self.old name.now ≡ None → ¬ IsErrOf result LoadFault.Memory
             → IsErrOf result LoadFault.Failed }
         ensures refused { OnErr result (into.new.items ≡ []) }

@@ -2,6 +2,7 @@
 ghost use Rattle.std.specs.Prelude.{◌≡◌, ◌≤◌, ◌<◌, ◌+◌, ℕ, List, Option, [], length, take, OnOk, IfOk, IfSome, IsErrOf};
 ghost use Rattle.std.specs.Prelude.{IsTrue};
 ghost use Rattle.std.specs.Io.KnownBytes.{Appends, Consumes, IsAtEnd};
+ghost use Rattle.gd_base.specs.Limits.{FILE_BYTES};
 
 use crate::LoadFault;
 use gd_base::limits::FILE_BYTES;
@@ -48,7 +49,7 @@ fn write_some<F: Write>(to: &mut F, piece: &[u8]) -> Option<usize>
 
 // How many bytes the next read may take, so that at most one is read past the longest file.
 fn room_after(taken: usize, most: usize) -> usize
-    requires taken { taken ≤ 134217728 }
+    requires taken { taken ≤ FILE_BYTES }
     requires most { 0 < most }
     ensures some { 0 < result }
     ensures within { result ≤ most }
@@ -83,9 +84,9 @@ fn append_some<F: Read>(
 fn read_pieces<F: Read>(from: &mut F, piece: &mut [u8], into: &mut Vec<u8>) -> Result<(), LoadFault>
     requires piece { 0 < length piece.old }
     requires empty { into.old.items ≡ [] }
-    ensures short { OnOk result (length into.new.items ≤ 134217728) }
+    ensures short { OnOk result (length into.new.items ≤ FILE_BYTES) }
     ensures bytes { OnOk result (IfSome (F.remaining from.old) (λ all. into.new.items ≡ all)) }
-    ensures long { IsErrOf result LoadFault.TooLong → IfSome (F.remaining from.old) (λ all. 134217728 < length all) }
+    ensures long { IsErrOf result LoadFault.TooLong → IfSome (F.remaining from.old) (λ all. FILE_BYTES < length all) }
 {
     while into.len() <= FILE_BYTES {
         let room = room_after(into.len(), piece.len());
@@ -110,9 +111,9 @@ pub(crate) fn read_all<F: Read>(
     into: &mut Vec<u8>,
 ) -> Result<(), LoadFault>
     requires { into.old.items ≡ [] }
-    ensures short { OnOk result (length into.new.items ≤ 134217728) }
+    ensures short { OnOk result (length into.new.items ≤ FILE_BYTES) }
     ensures bytes { OnOk result (IfSome (F.remaining from.old) (λ all. into.new.items ≡ all)) }
-    ensures long { IsErrOf result LoadFault.TooLong → IfSome (F.remaining from.old) (λ all. 134217728 < length all) }
+    ensures long { IsErrOf result LoadFault.TooLong → IfSome (F.remaining from.old) (λ all. FILE_BYTES < length all) }
 {
     let mut piece = new_piece(alloc)?;
     read_pieces(from, piece.as_mut_slice(), into)

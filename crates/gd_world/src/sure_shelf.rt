@@ -1,5 +1,6 @@
 // A shelf in memory of which no call fails.
 ghost use Rattle.std.specs.Prelude.{◌≡◌, ◌+◌, ◌≤◌, ◌<◌, ℕ, [], true, false, Some, length, OnOk, OnErr, IsSomeAnd, IsErrOf};
+ghost use Rattle.gd_base.specs.Limits.{FILE_BYTES};
 ghost use Rattle.gd_world.specs.Shelf.{held_or, Puts, SameFiles};
 
 use crate::entries::{copy_held, first_of, put_first};
@@ -40,10 +41,10 @@ impl Shelf for SureShelf {
     fn load(&mut self, _alloc: Global, name: &str, into: &mut Vec<u8>) -> Result<(), LoadFault>
         ensures bytes { OnOk result
             (held_or self.old.default.items self.old.files.items name.now ≡ Some into.new.items) }
-        ensures short { OnOk result (length into.new.items ≤ 134217728) }
+        ensures short { OnOk result (length into.new.items ≤ FILE_BYTES) }
         ensures long { IsErrOf result LoadFault.TooLong
             → IsSomeAnd (held_or self.old.default.items self.old.files.items name.now)
-            (λ bytes. 134217728 < length bytes) }
+            (λ bytes. FILE_BYTES < length bytes) }
         ensures sure { ¬ IsErrOf result LoadFault.Failed }
         ensures refused { OnErr result (into.new.items ≡ []) }
         ensures same { self.new ≡ self.old }
