@@ -5,7 +5,8 @@ use Rattle.std.proofs.lemmas.Bool.Decides.{nat_tests}
 use Rattle.gd_base.specs.Limits.{POINTS}
 use Rattle.csv.specs.Reading.{default_config, records, strip_bom}
 use Rattle.gd_base.specs.declared.fault.InputFault.{InputFault}
-use Rattle.gd_points.specs.Points.{Five, Point, and_then_read, five_of, is_header, next_row, or_fault, point_in, points, points_from, points_of, with_points, with_record, with_records}
+use Rattle.gd_points.specs.Points.{Five, Point, five_of, is_header, next_row, or_fault, point_in, points, points_from, points_of, with_points, with_record, with_records}
+use Rattle.gd_base.specs.Causes.{and_then_read}
 use Rattle.gd_points.specs.Rules.{fault}
 use Rattle.gd_points.specs.Table.{Table, empty_table, with_point}
 use Rattle.gd_points.specs.declared.rule.Rule.TheVariants as rule

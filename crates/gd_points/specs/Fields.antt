@@ -15,8 +15,3 @@ seen f = record { name = f.name.now; group = f.group.now; x = f.x.now; y = f.y.n
 abbrev pub shown : Table → PointRead → Point
 shown t p = record { name = name_in t.names p.name; group = p.group; at = p.at }
 
--- the table is what is meant, unless memory ran out
-abbrev pub Adds : {T : Type 0} → Table → Result T ReadFault → Result Table InputFault → Type 0
-Adds new (Ok x) meant = meant ≡ Ok new
-Adds new (Err read_fault.Memory) meant = Unit {0}
-Adds new (Err (read_fault.Input f)) meant = meant ≡ Err f

@@ -2,6 +2,7 @@
 use Rattle.std.specs.Prelude.{ℕ, ◌+◌, ◌≡◌, ℤ, pos, negsuc, Bool, false, List, [], ◌∷◌, Option, Some, None, Result, Ok}
 use Rattle.std.specs.Prelude.{Err, length, nat_lt, nat_eq, ◌==◌, ◌&&◌, int_le, unsigned_abs, codes, if◌then◌else◌}
 use Rattle.std.specs.Cmp.Lexicographic.{pointwise}
+use Rattle.gd_base.specs.Causes.{and_then_read}
 use Rattle.gd_base.specs.Limits.{COORDINATE, POINTS}
 use Rattle.csv.specs.Reading.{default_config, records, strip_bom}
 use Rattle.gd_base.specs.Names.{name_of}
@@ -13,11 +14,6 @@ use Rattle.gd_points.specs.Rules.{fault}
 use Rattle.gd_points.specs.Table.{Table, empty_table, with_point}
 use Rattle.gd_points.specs.declared.rule.Rule.TheVariants as rule
 use Rattle.gd_vec.specs.declared.vector.V3.{V3}
-
--- what was read goes on, and a fault stays
-abbrev pub and_then_read : {A B : Type 0} → Result A InputFault → (A → Result B InputFault) → Result B InputFault
-and_then_read (Ok x) next = next x
-and_then_read (Err e) next = Err e
 
 -- what an option has, or else a fault
 abbrev pub or_fault : {A : Type 0} → Option A → InputFault → Result A InputFault
@@ -110,9 +106,3 @@ points_of (fields ∷ rest) =
 -- rest into records
 abbrev pub points : List ℕ → Result Table InputFault
 points bytes = points_of (records default_config (strip_bom (strip_bom bytes)))
-
--- what a reader answers: what is meant, unless memory ran out
-abbrev pub Answers : {X Y : Type 0} → (X → Y) → Result X ReadFault → Result Y InputFault → Type 0
-Answers view (Ok x) meant = meant ≡ Ok (view x)
-Answers view (Err read_fault.Memory) meant = Unit {0}
-Answers view (Err (read_fault.Input f)) meant = meant ≡ Err f

@@ -1,13 +1,14 @@
 // The reader of a points file.
 ghost use Rattle.std.specs.Prelude.{◌≡◌, ◌<◌, ◌≤◌, ◌≤ℤ◌, ◌<ℤ◌, ℤ, pos, negsuc, Some, None, IfOk, length, option_map};
 ghost use Rattle.std.specs.Prelude.{unsigned_abs};
+ghost use Rattle.gd_base.specs.Causes.{Gives, input_cause};
 ghost use Rattle.gd_base.specs.Limits.{COORDINATE};
 ghost use Rattle.csv.specs.Reading.{default_config, records, strip_bom};
 ghost use Rattle.csv.specs.Records.{fields_of, field_at};
 ghost use Rattle.gd_base.specs.Names.{name_of};
-ghost use Rattle.gd_points.specs.Fields.{Adds, seen, shown};
+ghost use Rattle.gd_points.specs.Fields.{seen, shown};
 ghost use Rattle.gd_points.specs.Named.{IsNamed, name_in};
-ghost use Rattle.gd_points.specs.Points.{Answers, coordinate_in, five_of, group_in, is_header, next_row, number_in};
+ghost use Rattle.gd_points.specs.Points.{coordinate_in, five_of, group_in, is_header, next_row, number_in};
 ghost use Rattle.gd_points.specs.Points.{or_fault, place_in, point_in, points, with_record, with_records};
 ghost use Rattle.gd_points.specs.Reader.{IsBetween, TakesHeader, TakesNext, records_left};
 ghost use Rattle.gd_points.specs.Rules.{fault};
@@ -44,7 +45,7 @@ struct PointRead {
 /// A byte order mark is dropped, and `csv` drops one more.
 /// `Memory` is answered for each error of `csv` too: over bytes in memory it has no other cause.
 pub fn read_points(alloc: Global, bytes: &[u8]) -> Result<PointTable, ReadFault>
-    ensures { Answers (λ t. t) result (points bytes.now) }
+    ensures { Gives input_cause (λ t. t) result (points bytes.now) }
 {
     let mut reader = records_in(alloc, without_mark(bytes));
     let mut entry = ByteRecord::new(alloc);
@@ -63,7 +64,7 @@ fn read_records(
     entry: &mut ByteRecord,
 ) -> Result<PointTable, ReadFault>
     requires { IsBetween reader.old }
-    ensures { Answers (λ t. t) result (with_records empty_table (records_left reader.old)) }
+    ensures { Gives input_cause (λ t. t) result (with_records empty_table (records_left reader.old)) }
 {
     let mut table = PointTable::new(alloc);
     while read_next(reader, entry)? {
@@ -138,7 +139,7 @@ fn are_columns(fields: &Fields<'_>) -> bool
 
 // Adds the point of a record.
 fn add_record(alloc: Global, table: &mut PointTable, entry: &ByteRecord) -> Result<(), ReadFault>
-    ensures { Adds table.new result (with_record table.old (fields_of entry.now)) }
+    ensures { Gives input_cause (λ t. table.new) result (with_record table.old (fields_of entry.now)) }
 {
     let count = table.len();
     let row = count as u32 + 2;
@@ -184,7 +185,7 @@ fn read_point(
     fields: &Fields<'_>,
     row: u32,
 ) -> Result<PointRead, ReadFault>
-    ensures answers { Answers (shown table.now) result (point_in row (seen fields.now)) }
+    ensures answers { Gives input_cause (shown table.now) result (point_in row (seen fields.now)) }
     ensures named { IfOk result (λ point. IsNamed table.now.names point.name) }
     ensures group { IfOk result (λ point. point.group ≤ 999) }
     ensures within { IfOk result (λ point. IsWithin 8000000 point.at) }
@@ -197,7 +198,7 @@ fn read_point(
 
 // The name that a field spells. Most points have that of the point before them, which needs no memory.
 fn read_name(alloc: Global, table: &PointTable, field: &[u8], row: u32) -> Result<Named, ReadFault>
-    ensures answers { Answers (name_in table.now.names) result (or_fault (name_of field.now) (fault rule.Name row 1)) }
+    ensures answers { Gives input_cause (name_in table.now.names) result (or_fault (name_of field.now) (fault rule.Name row 1)) }
     ensures named { IfOk result (λ name. IsNamed table.now.names name) }
 {
     if let Some(feature) = table.last_named(field) {
@@ -210,7 +211,7 @@ fn read_name(alloc: Global, table: &PointTable, field: &[u8], row: u32) -> Resul
 }
 
 fn read_group(field: &[u8], row: u32) -> Result<u32, ReadFault>
-    ensures answers { Answers (λ group. group) result (group_in row field.now) }
+    ensures answers { Gives input_cause (λ group. group) result (group_in row field.now) }
     ensures within { IfOk result (λ group. group ≤ 999) }
 {
     let group = read_within(field, row, 2, 0, i64::from(limits::GROUP))?;
@@ -218,7 +219,7 @@ fn read_group(field: &[u8], row: u32) -> Result<u32, ReadFault>
 }
 
 fn read_place(fields: &Fields<'_>, row: u32) -> Result<V3, ReadFault>
-    ensures answers { Answers (λ at. at) result (place_in row (seen fields.now)) }
+    ensures answers { Gives input_cause (λ at. at) result (place_in row (seen fields.now)) }
     ensures within { IfOk result (λ at. IsWithin 8000000 at) }
 {
     let x = read_coordinate(fields.x, row, 3)?;
@@ -228,7 +229,7 @@ fn read_place(fields: &Fields<'_>, row: u32) -> Result<V3, ReadFault>
 }
 
 fn read_coordinate(field: &[u8], row: u32, column: u32) -> Result<i64, ReadFault>
-    ensures answers { Answers (λ x. x) result (coordinate_in row column field.now) }
+    ensures answers { Gives input_cause (λ x. x) result (coordinate_in row column field.now) }
     ensures within { IfOk result (λ x. unsigned_abs x ≤ COORDINATE) }
 {
     read_within(field, row, column, -limits::COORDINATE, limits::COORDINATE)
@@ -238,7 +239,7 @@ fn read_coordinate(field: &[u8], row: u32, column: u32) -> Result<i64, ReadFault
 fn read_within(field: &[u8], row: u32, column: u32, low: i64, high: i64) -> Result<i64, ReadFault>
     requires low { negsuc 999999999 <ℤ low }
     requires high { high <ℤ pos 1000000000 }
-    ensures answers { Answers (λ n. n) result (number_in row column low high field.now) }
+    ensures answers { Gives input_cause (λ n. n) result (number_in row column low high field.now) }
     ensures low { IfOk result (λ n. low ≤ℤ n) }
     ensures high { IfOk result (λ n. n ≤ℤ high) }
 {
