@@ -28,7 +28,7 @@ pub enum Head {
 pub struct Certificate {
     pub head: Head,
     pub share: u32,
-    pub told: u32,
+    pub stated: u32,
     pub groups: Vec<Body>,
 }
 
@@ -81,7 +81,7 @@ impl Certificate {
                 tree: tree_of(levels),
             },
         };
-        Certificate { head: Head::Plain, share: budget, told: 1, groups: vec![body] }
+        Certificate { head: Head::Plain, share: budget, stated: 1, groups: vec![body] }
     }
 
     /// The text of a certificate without a probe.
@@ -92,7 +92,7 @@ impl Certificate {
     }
 
     fn write(&self, text: &mut Vec<u8>) -> std::io::Result<()> {
-        write!(text, "gdcert 1\nplain\nshare {}\ngroups {}\n", self.share, self.told)?;
+        write!(text, "gdcert 1\nplain\nshare {}\ngroups {}\n", self.share, self.stated)?;
         for (number, body) in (1..).zip(&self.groups) {
             match body {
                 Body::Accept { root, at } => {

@@ -3,7 +3,7 @@
 use crate::certificate::{Body, Certificate, Fault, Head, Node};
 use crate::flat::Reason;
 
-/// The code of a misspelled line. It stands for each of the codes 40 to 46, which are not told apart here.
+/// The code of a misspelled line. It stands for each of the codes 40 to 46, between which it makes no difference.
 const MISSPELLED: u32 = 45;
 
 /// The words of a line.
@@ -79,7 +79,7 @@ fn head(words: &mut Words) -> Option<Head> {
     }
 }
 
-/// A word and the number behind it.
+/// A word and the number after it.
 fn sized(words: &mut Words, word: &[u8], limit: u64) -> Option<u32> {
     if words.next()? == word { next_number(words, limit) } else { None }
 }
@@ -142,7 +142,7 @@ pub fn read(text: &[u8]) -> Result<Certificate, Fault> {
     lines.read(|words| (words.next()? == b"gdcert" && words.next()? == b"1").then_some(()))?;
     let head = lines.read(head)?;
     let share = lines.read(|words| sized(words, b"share", 1_000_001))?;
-    let told = lines.read(|words| sized(words, b"groups", 300_001).filter(|&it| it > 0))?;
+    let stated = lines.read(|words| sized(words, b"groups", 300_001).filter(|&it| it > 0))?;
     let mut groups = Vec::new();
     while lines.is_at(b"group") {
         let expected = groups.len() as u32 + 1;
@@ -151,7 +151,7 @@ pub fn read(text: &[u8]) -> Result<Certificate, Fault> {
     }
     lines.read(|words| (words.next()? == b"end").then_some(()))?;
     if lines.rest.is_empty() {
-        Ok(Certificate { head, share, told, groups })
+        Ok(Certificate { head, share, stated, groups })
     } else {
         Err(Fault { line: lines.number + 1, code: MISSPELLED })
     }

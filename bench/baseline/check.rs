@@ -4,7 +4,7 @@ use crate::certificate::{Body, Certificate, Fault, Head, Node};
 use crate::flat::{self, Cell, FINEST, NO_LEAD, ONE, Reason};
 use crate::points::Columns;
 
-/// The line behind that of the only group.
+/// The line after that of the only group.
 const BEHIND_GROUP: u32 = 6;
 
 /// The task of flatness that the lines are decided for.
@@ -107,7 +107,7 @@ pub fn check(points: &Columns, tolerance: u32, certificate: &Certificate) -> Res
     let [group] = certificate.groups.as_slice() else {
         return Err(Fault { line: 4, code: 55 });
     };
-    if certificate.told != 1 {
+    if certificate.stated != 1 {
         return Err(Fault { line: 4, code: 55 });
     }
     match group {

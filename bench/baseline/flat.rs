@@ -139,7 +139,7 @@ pub fn first_evidence(points: &Columns, tolerance: u32, within: &Directions) -> 
 
 /// The same where an axis is known to lead.
 ///
-/// A block is told by its extremes, and the points are looked up in the two blocks that have the extremes of all first.
+/// A block is known by its extremes, and the points are looked up in the two blocks that have the extremes of all first.
 fn first_evidence_by<const AXIS: usize>(points: &Columns, tolerance: u32, within: &Directions) -> Option<Evidence> {
     let points = &points.same_length();
     let count = points.axes[0].len();

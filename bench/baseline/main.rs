@@ -1,5 +1,5 @@
 //! `gdteval flat` and `gdteval checkflat` in plain Rust, with the standard library alone: the same words, texts and statuses.
-//! Of a certificate that is misspelled only the line is told as gdteval tells it, and not which of the codes 40 to 46.
+//! Of a certificate that is misspelled only the line is that of gdteval, and not which of the codes 40 to 46.
 //! It is written for a fair comparison of time and as a second opinion on each answer. Nothing of it is proved.
 
 mod certificate;

@@ -1,7 +1,9 @@
 // Why bytes are no certificate.
 ghost use Rattle.std.specs.Prelude.{◌≡◌};
+ghost use Rattle.gd_cert.specs.Reading.{fault};
 ghost use Rattle.gd_cert.specs.declared.fault.CertReadFault.TheVariants as read_fault;
 
+use crate::rule::Rule;
 use gd_base::Memory;
 use std::alloc::{AllocError, AllocFailed};
 
@@ -10,6 +12,16 @@ use std::alloc::{AllocError, AllocFailed};
 pub struct CertFault {
     pub line: u32,
     pub code: u32,
+}
+
+impl CertFault {
+    /// The fault of a file that is longer than 134,217,728 bytes: bytes stand after the end of each certificate that may be
+    /// in it. Its place is line 0, since no line is read.
+    pub fn too_long() -> CertFault
+        ensures { result ≡ fault 0 46 }
+    {
+        Rule::Behind.fault(0)
+    }
 }
 
 /// Why a certificate was not read: its first fault, or want of memory.

@@ -50,14 +50,21 @@ impl Rule {
         }
     }
 
-    /// The fault of a line, counted from 1.
+    /// The fault of a line, counted from 1. Line 0 is the whole file.
+    pub(crate) fn fault(self, line: u32) -> CertFault
+        ensures { result ≡ fault line (code_of self) }
+    {
+        CertFault {
+            line,
+            code: self.code(),
+        }
+    }
+
+    /// That fault as the answer of a reader.
     pub(crate) fn broken_at(self, line: u32) -> CertReadFault
         ensures { result ≡ CertReadFault.Cert (fault line (code_of self)) }
     {
-        CertReadFault::Cert(CertFault {
-            line,
-            code: self.code(),
-        })
+        CertReadFault::Cert(self.fault(line))
     }
 }
 

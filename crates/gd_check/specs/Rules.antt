@@ -13,6 +13,7 @@ code_of rule.Witness = 51
 code_of rule.Place = 52
 code_of rule.NoLine = 53
 code_of rule.NoCell = 54
+code_of rule.Head = 55
 code_of rule.Groups = 55
 code_of rule.Open = 56
 code_of rule.FinestLevel = 57

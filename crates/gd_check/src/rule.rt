@@ -6,8 +6,8 @@ ghost use Rattle.gd_check.specs.Rules.{code_of};
 use gd_cert::CertFault;
 
 /// What the lines of a right certificate keep (docs/FORMATS.md, "Certificate").
-/// Where the line of a cell breaks two rules, `FinestLevel` comes before `Open`; where a witness does, `Place` before
-/// `Witness`.
+/// Where the line of a cell breaks two rules, `FinestLevel` is reported before `Open`; where a witness does, `Place`
+/// before `Witness`.
 #[derive(Clone, Copy, Debug, PartialEq, Eq)]
 pub enum Rule {
     /// The evidence refutes its cell.
@@ -20,6 +20,8 @@ pub enum Rule {
     NoLine,
     /// Each line has a cell.
     NoCell,
+    /// The head is that of the requirement as it is written, where no probe can be decided.
+    Head,
     /// There are as many groups as tasks, and as the fourth line states.
     Groups,
     /// A reject leaves no cell undecided. An open group leaves the cells that nothing refutes and whose centres don't
@@ -41,14 +43,14 @@ impl Rule {
             Rule::Place => 52,
             Rule::NoLine => 53,
             Rule::NoCell => 54,
-            Rule::Groups => 55,
+            Rule::Head | Rule::Groups => 55,
             Rule::Open => 56,
             Rule::FinestLevel => 57,
         }
     }
 
-    // The fault of a line, counted from 1, that breaks the rule.
-    pub(crate) fn broken_at(self, line: u32) -> CertFault
+    /// The fault of a line, counted from 1, that breaks the rule.
+    pub fn broken_at(self, line: u32) -> CertFault
         ensures { result ≡ fault line (code_of self) }
     {
         CertFault {

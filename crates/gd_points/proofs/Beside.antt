@@ -1,6 +1,8 @@
 -- The labels and coordinates of rows, and of one row more.
-use Rattle.std.proofs.Common.{◌≡◌, refl, sym, ap, ◌∙◌, ℕ, ℤ, ◌++◌, List, [], ◌∷◌, map}
+use Rattle.std.proofs.Common.{◌≡◌, refl, sym, ap, ◌∙◌, ℕ, ℤ, ◌<◌, ◌++◌, List, [], ◌∷◌, map}
 use Rattle.std.proofs.lemmas.List.{map-append}
+use Rattle.std.proofs.lemmas.List.Elements.{All-map}
+use Rattle.std.specs.List.{All}
 use Rattle.gd_points.specs.Columns.{AreColumns, HasColumns, label_of, rows_of}
 use Rattle.gd_points.specs.Table.{IsTable, Table}
 use Rattle.gd_points.specs.declared.table.Label.{Label}
@@ -35,3 +37,7 @@ labels_more labels labels' rows row is more = more ∙ ap (λ ls. ls ++ label_of
 -- a label that was pushed to a list as it was
 pub pushed : (old kept new : List Label) (feature number group : ℕ) → new ≡ kept ++ record { feature = feature; group = group } ∷ [] → kept ≡ old → feature ≡ number → new ≡ old ++ record { feature = number; group = group } ∷ []
 pushed old kept new feature number group is same equal = is ∙ rw (same, equal) refl
+
+-- the labels of rows have their features
+pub labels_below : (count : ℕ) (labels : List Label) (rows : List Row) → labels ≡ map label_of rows → All (λ (r : Row). r.feature < count) rows → All (λ (l : Label). l.feature < count) labels
+labels_below count labels rows is all = rw is (All-map (λ (l : Label). l.feature < count) label_of rows all)

@@ -2,10 +2,12 @@
 use Rattle.std.proofs.Common.{◌≡◌, ℕ, List, [], ◌∷◌, Some, None, refl}
 use Rattle.std.specs.Prelude.{pos, negsuc, codes, Ok, Err}
 use Rattle.csv.specs.Reading.{strip_bom}
+use Rattle.gd_points.specs.Index.{is_of, is_of_group, numbers_where}
 use Rattle.gd_points.specs.Numbers.{number_of}
 use Rattle.gd_points.specs.Points.{points_of}
 use Rattle.gd_points.specs.Rules.{fault}
 use Rattle.gd_points.specs.declared.rule.Rule.TheVariants as rule
+use Rattle.gd_points.specs.declared.table.Row.{Row}
 
 blanks_and_zeros : number_of (codes "\t +007 ") ≡ Some (pos 7)
 blanks_and_zeros = refl
@@ -25,8 +27,8 @@ no_digit = refl
 two_signs : number_of (codes "--1") ≡ None
 two_signs = refl
 
-blank_behind_sign : number_of (codes "- 1") ≡ None
-blank_behind_sign = refl
+blank_after_sign : number_of (codes "- 1") ≡ None
+blank_after_sign = refl
 
 blank_between : number_of (codes "1 2") ≡ None
 blank_between = refl
@@ -70,3 +72,18 @@ no_record = refl
 two_marks : strip_bom (strip_bom (239 ∷ 187 ∷ 191 ∷ 239 ∷ 187 ∷ 191 ∷ 97 ∷ [])) ≡ 97 ∷ []
 unfolding strip_bom
 two_marks = refl
+
+-- three points of two features, the first in two groups
+abbrev three : List Row
+three = record { feature = 0; group = 5; at = record { x = pos 1; y = pos 2; z = pos 3 } }
+    ∷ record { feature = 1; group = 7; at = record { x = pos 4; y = pos 5; z = pos 6 } }
+    ∷ record { feature = 0; group = 7; at = record { x = pos 7; y = pos 8; z = pos 9 } } ∷ []
+
+first_feature : numbers_where (is_of 0) three ≡ 0 ∷ 2 ∷ []
+first_feature = refl
+
+no_feature : numbers_where (is_of 2) three ≡ []
+no_feature = refl
+
+one_group : numbers_where (is_of_group 0 7) three ≡ 2 ∷ []
+one_group = refl

@@ -1,5 +1,5 @@
 -- A byte order mark at the start of a text.
-use Rattle.std.proofs.Common.{◌≡◌, ◌≢◌, ◌⊎◌, inl, inr, ℕ, List, [], ◌∷◌, Bool, true, false, refl, sym, arith, cond}
+use Rattle.std.proofs.Common.{◌≡◌, ◌≢◌, ℕ, List, [], ◌∷◌, Bool, true, false, refl, arith, cond}
 use Rattle.std.proofs.lemmas.Bool.Decides.{nat_tests}
 use Rattle.csv.specs.Reading.{is_bom, strip_bom}
 
@@ -21,15 +21,3 @@ mark-stays [] other = refl
 mark-stays (a ∷ []) other = refl
 mark-stays (a ∷ b ∷ []) other = refl
 mark-stays (a ∷ b ∷ c ∷ rest) other = unmarked a b c rest (is_bom a b c) refl other
-
-marked_by : (a b c : ℕ) (rest text : List ℕ) (marked : Bool) → is_bom a b c ≡ marked → text ≡ cond marked rest (a ∷ b ∷ c ∷ rest) → (a ∷ b ∷ c ∷ rest ≡ text) ⊎ (a ∷ b ∷ c ∷ rest ≡ 239 ∷ 187 ∷ 191 ∷ text)
-marked_by a b c rest text true is same = let (x, y, z) = is_mark a b c is in inr (rw (x, y, z, same) refl)
-marked_by a b c rest text false is same = inl (sym same)
-
--- a text without its mark is the text, or follows a mark
-pub marked : (bytes text : List ℕ) → text ≡ strip_bom bytes → (bytes ≡ text) ⊎ (bytes ≡ 239 ∷ 187 ∷ 191 ∷ text)
-unfolding strip_bom
-marked [] text same = inl (sym same)
-marked (a ∷ []) text same = inl (sym same)
-marked (a ∷ b ∷ []) text same = inl (sym same)
-marked (a ∷ b ∷ c ∷ rest) text same = marked_by a b c rest text (is_bom a b c) refl same

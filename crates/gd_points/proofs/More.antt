@@ -5,20 +5,20 @@ use Rattle.std.specs.Cmp.Lexicographic.{pointwise}
 use Rattle.std.specs.List.{IsDistinct, position_or_len}
 use Rattle.std.proofs.lemmas.List.{length-append}
 use Rattle.std.proofs.lemmas.List.Elements.{All-push}
+use Rattle.gd_base.specs.Limits.{COORDINATE, POINTS}
 use Rattle.indexmap.specs.IndexSet.{insert_key}
 use Rattle.gd_base.specs.Names.{is_name}
-use Rattle.gd_points.proofs.Joins.{longer_all, new_below}
-use Rattle.gd_points.proofs.Used.{features_more, spelled_more, used_again, used_more}
+use Rattle.gd_points.proofs.Used.{features_more, longer_names, new_below, spelled_more, used_more}
 use Rattle.gd_points.specs.Table.{IsTable, Table}
 use Rattle.gd_points.specs.declared.table.Row.{Row}
 use Rattle.gd_vec.specs.Vector.{IsWithin}
 
 -- a row of the feature with this name, which is new or not
 pub table_more : (t : Table) (row : Row) (name : List ℕ) (names : List (List ℕ)) → names ≡ insert_key (pointwise nat_eq) t.names name → IsTable t → IsDistinct (pointwise nat_eq) names → is_name name ≡ true
-    → length t.rows < 200000 → row.feature ≡ position_or_len (pointwise nat_eq name) t.names → row.group ≤ 999 → IsWithin 8000000 row.at → IsTable (record { rows = t.rows ++ row ∷ []; names = names })
+    → length t.rows < POINTS → row.feature ≡ position_or_len (pointwise nat_eq name) t.names → row.group ≤ 999 → IsWithin COORDINATE row.at → IsTable (record { rows = t.rows ++ row ∷ []; names = names })
 table_more t row name names same is distinct spelled room feature group within =
     let size = length-append t.rows (row ∷ []) in
-    let (least, most) = longer_all (name ∷ []) t.names in
+    let most = longer_names t.names name in
     let fewer = is.names in
     let below = new_below t.names name in
     rw same record {
@@ -29,24 +29,7 @@ table_more t row name names same is distinct spelled room feature group within =
       used = used_more t.rows t.names name row is.used feature;
       features = features_more t.rows t.names name row is.features (rw feature below);
       groups = All-push (λ (r : Row). r.group ≤ 999) t.rows row is.groups group;
-      within = All-push (λ (r : Row). IsWithin 8000000 r.at) t.rows row is.within within;
-    }
-
--- a row of a feature that is there
-pub table_again : (t : Table) (row : Row) → IsTable t → length t.rows < 200000 → row.feature < length t.names → row.group ≤ 999 → IsWithin 8000000 row.at
-    → IsTable (record { rows = t.rows ++ row ∷ []; names = t.names })
-table_again t row is room feature group within =
-    let size = length-append t.rows (row ∷ []) in
-    let fewer = is.names in
-    record {
-      few = omega arith;
-      names = omega arith;
-      distinct = is.distinct;
-      spelled = is.spelled;
-      used = used_again t.rows row (length t.names) is.used;
-      features = All-push (λ (r : Row). r.feature < length t.names) t.rows row is.features feature;
-      groups = All-push (λ (r : Row). r.group ≤ 999) t.rows row is.groups group;
-      within = All-push (λ (r : Row). IsWithin 8000000 r.at) t.rows row is.within within;
+      within = All-push (λ (r : Row). IsWithin COORDINATE r.at) t.rows row is.within within;
     }
 
 abbrev pub table_of : List Row → List (List ℕ) → Table

@@ -1,5 +1,5 @@
--- Each name of a table has a row and is a name, also behind one more point.
-use Rattle.std.proofs.Common.{◌≡◌, ℕ, ◌<◌, ◌≤◌, ◌++◌, inl, inr, length, get_or, List, [], ◌∷◌, Bool, true, false, cond, sym, ◌∙◌, refl, arith}
+-- Each name of a table has a row and is a name, also after one more point.
+use Rattle.std.proofs.Common.{◌≡◌, ℕ, ◌+◌, ◌<◌, ◌≤◌, ◌++◌, inl, inr, length, get_or, List, [], ◌∷◌, Bool, true, false, cond, sym, ◌∙◌, refl, arith}
 use Rattle.std.specs.Prelude.{nat_eq, slice_get, Some}
 use Rattle.std.specs.Cmp.Lexicographic.{pointwise}
 use Rattle.std.specs.List.{All, Any, list_any, position_or_len}
@@ -68,3 +68,29 @@ features_by rows names name row false all one =
 pub features_more : (rows : List Row) (names : List (List ℕ)) (name : List ℕ) (row : Row) → All (λ (r : Row). r.feature < length names) rows
     → row.feature < length (insert_key (pointwise nat_eq) names name) → All (λ (r : Row). r.feature < length (insert_key (pointwise nat_eq) names name)) (rows ++ row ∷ [])
 features_more rows names name row = features_by rows names name row (list_any (pointwise nat_eq name) names)
+
+-- ---- the number of a name
+below_step : (p : List ℕ → Bool) (y : List ℕ) (ks : List (List ℕ)) (at : Bool) → p y ≡ at → (list_any p ks ≡ true → position_or_len p ks < length ks) → list_any p (y ∷ ks) ≡ true
+    → position_or_len p (y ∷ ks) < length (y ∷ ks)
+below_step p y ks true at more is = rw at (omega arith)
+below_step p y ks false at more is = let less = more (rw at at is) in rw at (omega arith)
+
+place_below : (ks : List (List ℕ)) (p : List ℕ → Bool) → list_any p ks ≡ true → position_or_len p ks < length ks
+place_below [] p is = absurd (cc)
+place_below (y ∷ ks) p is = below_step p y ks (p y) refl (λ h. place_below ks p h) is
+
+new_by : (names : List (List ℕ)) (name : List ℕ) (known : Bool) → list_any (pointwise nat_eq name) names ≡ known → position_or_len (pointwise nat_eq name) names < length (cond known names (names ++ name ∷ []))
+new_by names name true is = place_below names (pointwise nat_eq name) is
+new_by names name false is = let same = no_place (pointwise nat_eq name) names is in let more = length-append names (name ∷ []) in omega arith
+
+-- it is one of the names that the table then has
+pub new_below : (names : List (List ℕ)) (name : List ℕ) → position_or_len (pointwise nat_eq name) names < length (insert_key (pointwise nat_eq) names name)
+new_below names name = new_by names name (list_any (pointwise nat_eq name) names) refl
+
+longer_by : (names : List (List ℕ)) (name : List ℕ) (known : Bool) → length (cond known names (names ++ name ∷ [])) ≤ length names + 1
+longer_by names name true = omega arith
+longer_by names name false = let more = length-append names (name ∷ []) in omega arith
+
+-- there is at most one name more
+pub longer_names : (names : List (List ℕ)) (name : List ℕ) → length (insert_key (pointwise nat_eq) names name) ≤ length names + 1
+longer_names names name = longer_by names name (list_any (pointwise nat_eq name) names)

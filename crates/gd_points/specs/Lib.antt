@@ -2,7 +2,8 @@ pub mod Numbers
 pub mod Rules
 pub mod Table
 pub mod Columns
+pub mod Index
 pub mod Points
-pub mod Joined
-pub mod Parts
+pub mod Named
+pub mod Fields
 pub mod Reader

@@ -1,6 +1,9 @@
 -- The table that a points file stands for, or its first fault: row by row, and in a row from left to right.
-use Rattle.std.specs.Prelude.{ℕ, ◌+◌, ◌≡◌, ℤ, pos, negsuc, Bool, false, List, [], ◌∷◌, Option, Some, None, Result, Ok, Err, length, nat_lt, nat_eq, ◌==◌, ◌&&◌, int_le, unsigned_abs, codes, if◌then◌else◌}
+use Rattle.std.specs.Prelude.{ℕ, ◌+◌, ◌≡◌, ℤ, pos, negsuc, Bool, false, List, [], ◌∷◌, Option, Some, None, Result, Ok}
+use Rattle.std.specs.Prelude.{Err, length, nat_lt, nat_eq, ◌==◌, ◌&&◌, int_le, unsigned_abs, codes, if◌then◌else◌}
 use Rattle.std.specs.Cmp.Lexicographic.{pointwise}
+use Rattle.gd_base.specs.Causes.{and_then_read}
+use Rattle.gd_base.specs.Limits.{COORDINATE, POINTS}
 use Rattle.csv.specs.Reading.{default_config, records, strip_bom}
 use Rattle.gd_base.specs.Names.{name_of}
 use Rattle.gd_base.specs.declared.fault.InputFault.{InputFault}
@@ -11,11 +14,6 @@ use Rattle.gd_points.specs.Rules.{fault}
 use Rattle.gd_points.specs.Table.{Table, empty_table, with_point}
 use Rattle.gd_points.specs.declared.rule.Rule.TheVariants as rule
 use Rattle.gd_vec.specs.declared.vector.V3.{V3}
-
--- what was read goes on, and a fault stays
-abbrev pub and_then_read : {A B : Type 0} → Result A InputFault → (A → Result B InputFault) → Result B InputFault
-and_then_read (Ok x) next = next x
-and_then_read (Err e) next = Err e
 
 -- what an option has, or else a fault
 abbrev pub or_fault : {A : Type 0} → Option A → InputFault → Result A InputFault
@@ -46,7 +44,7 @@ group_in row field = and_then_read (number_in row 2 (pos 0) (pos 999) field) (λ
 
 -- a coordinate is a number from -8,000,000 to 8,000,000
 abbrev pub coordinate_in : ℕ → ℕ → List ℕ → Result ℤ InputFault
-coordinate_in row column field = number_in row column (negsuc 7999999) (pos 8000000) field
+coordinate_in row column field = number_in row column (negsuc 7999999) (pos COORDINATE) field
 
 -- the three coordinates, from left to right
 abbrev pub place_in : ℕ → Five → Result V3 InputFault
@@ -75,7 +73,7 @@ next_row t = length t.rows + 2
 abbrev pub with_record : Table → List (List ℕ) → Result Table InputFault
 with_record t fields =
     and_then_read (or_fault (five_of fields) (fault rule.Fields (next_row t) 0)) (λ five.
-    if nat_lt (length t.rows) 200000
+    if nat_lt (length t.rows) POINTS
     then and_then_read (point_in (next_row t) five) (λ p. Ok (with_point t p.name p.group p.at))
     else Err (fault rule.TooManyPoints (next_row t) 0))
 
@@ -101,14 +99,10 @@ is_header (Some f) = pointwise nat_eq f.name (codes "feature") && pointwise nat_
 -- the first record is the header, and the others are points
 abbrev pub points_of : List (List (List ℕ)) → Result Table InputFault
 points_of [] = Err (fault rule.Header 1 0)
-points_of (fields ∷ rest) = if is_header (five_of fields) then points_from empty_table rest else Err (fault rule.Header 1 0)
+points_of (fields ∷ rest) =
+    if is_header (five_of fields) then points_from empty_table rest else Err (fault rule.Header 1 0)
 
--- the table of a file, or its first fault: a byte order mark is dropped, and `csv` drops one more before it splits the rest into records
+-- the table of a file, or its first fault: a byte order mark is dropped, and `csv` drops one more before it splits the
+-- rest into records
 abbrev pub points : List ℕ → Result Table InputFault
 points bytes = points_of (records default_config (strip_bom (strip_bom bytes)))
-
--- what a reader answers: what is meant, unless memory ran out
-abbrev pub Answers : {X Y : Type 0} → (X → Y) → Result X ReadFault → Result Y InputFault → Type 0
-Answers view (Ok x) meant = meant ≡ Ok (view x)
-Answers view (Err read_fault.Memory) meant = Unit {0}
-Answers view (Err (read_fault.Input f)) meant = meant ≡ Err f

@@ -1,5 +1,6 @@
--- For the proof of the reader, and cited by its private functions alone: what `csv` has left of a file, between two records.
-use Rattle.std.specs.Prelude.{ℕ, ◌+◌, ◌<◌, ◌≡◌, Bool, true, false, List, [], ◌∷◌, Option, Some, None, IsSome, Result, Ok, Err, length, ⊤}
+-- What `csv` has left of a file, between two records. Private functions of the reader alone cite it.
+use Rattle.std.specs.Prelude.{ℕ, ◌+◌, ◌<◌, ◌≡◌, Bool, true, false, List, [], ◌∷◌, Option, Some, None, IsSome, Result}
+use Rattle.std.specs.Prelude.{Ok, Err, length, ⊤}
 use Rattle.std.specs.Borrow.{Bor}
 use Rattle.csv.specs.Machine.{ends_at_end}
 use Rattle.csv.specs.Reading.{Ready, default_config, reader_config, reader_state, reader_trim, records_from, source_of}
@@ -46,9 +47,10 @@ size_of_known (Some bytes) = length bytes
 abbrev pub size_left : Source → ℕ
 size_left s = size_of_known (bytes_left s)
 
--- a record was taken and some are left behind it, or there was none
+-- a record was taken and those after it are left, or there was none
 abbrev pub TakesNext : Source → Source → List (List ℕ) → Result Bool ReadFault → Type 0
-TakesNext old new fields (Ok true) = IsBetween new × (records_left old ≡ fields ∷ records_left new) × (size_left new < size_left old)
+TakesNext old new fields (Ok true) =
+    IsBetween new × (records_left old ≡ fields ∷ records_left new) × (size_left new < size_left old)
 TakesNext old new fields (Ok false) = records_left old ≡ []
 TakesNext old new fields (Err e) = e ≡ read_fault.Memory
 

@@ -2,6 +2,7 @@
 use Rattle.std.specs.Prelude.{ℕ, ◌≡◌, true, ◌≤◌, ◌<◌, ◌++◌, List, [], ◌∷◌, length, nat_eq}
 use Rattle.std.specs.Cmp.Lexicographic.{pointwise}
 use Rattle.std.specs.List.{position_or_len, All, Any, IsDistinct}
+use Rattle.gd_base.specs.Limits.{COORDINATE, POINTS}
 use Rattle.indexmap.specs.IndexSet.{insert_key}
 use Rattle.gd_base.specs.Names.{is_name}
 use Rattle.gd_points.specs.declared.table.Row.{Row}
@@ -36,11 +37,11 @@ AreNames names = All (λ name. is_name name ≡ true) names
 -- at most 200,000 rows; the names are names, differ, and each has a row;
 -- each row's feature has a name, its group is at most 999 and its coordinates lie within 8,000,000 units
 pub record IsTable (t : Table) : Type 0 where
-  pub few : length t.rows ≤ 200000
+  pub few : length t.rows ≤ POINTS
   pub names : length t.names ≤ length t.rows
   pub distinct : IsDistinct (pointwise nat_eq) t.names
   pub spelled : AreNames t.names
   pub used : HasRows t.rows (length t.names)
   pub features : All (λ row. row.feature < length t.names) t.rows
   pub groups : All (λ row. row.group ≤ 999) t.rows
-  pub within : All (λ row. IsWithin 8000000 row.at) t.rows
+  pub within : All (λ row. IsWithin COORDINATE row.at) t.rows

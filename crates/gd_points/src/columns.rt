@@ -1,5 +1,7 @@
 // The coordinates of points, axis by axis.
-ghost use Rattle.std.specs.Prelude.{◌≡◌, ◌≤◌, ◌<◌, ◌++◌, [], ◌∷◌, OnOk, vec_capacity, vec_len, unsigned_abs, get_or, pos};
+ghost use Rattle.std.specs.Prelude.{◌≡◌, ◌≤◌, ◌<◌, ◌++◌, [], ◌∷◌, OnOk, vec_capacity, vec_len, unsigned_abs, get_or};
+ghost use Rattle.std.specs.Prelude.{pos};
+ghost use Rattle.gd_base.specs.Limits.{COORDINATE};
 ghost use Rattle.gd_vec.specs.Vector.{IsWithin};
 
 use gd_vec::V3;
@@ -8,12 +10,15 @@ use std::alloc::{AllocError, Global};
 /// The coordinates of some points in order, axis by axis, in units of 0.1 micrometre: 12 bytes a point.
 #[derive(Clone, Copy)]
 pub struct Columns<'a> {
+    /// Their first coordinates.
     pub x: &'a [i32],
+    /// Their second coordinates.
     pub y: &'a [i32],
+    /// Their third coordinates.
     pub z: &'a [i32],
 }
 
-// The lists that columns borrow.
+/// The lists that columns borrow.
 #[derive(Drop)]
 pub struct ColumnLists {
     pub x: Vec<i32>,
@@ -24,14 +29,14 @@ pub struct ColumnLists {
 // A coordinate in 32 bits.
 #[inline]
 fn short(coordinate: i64) -> i32
-    requires { unsigned_abs coordinate ≤ 8000000 }
+    requires { unsigned_abs coordinate ≤ COORDINATE }
     ensures { result ≡ coordinate }
 {
     coordinate as i32
 }
 
 impl ColumnLists {
-    // No points.
+    /// No points.
     pub fn new(alloc: Global) -> ColumnLists
         ensures x { result.x.items ≡ [] }
         ensures y { result.y.items ≡ [] }
@@ -44,19 +49,7 @@ impl ColumnLists {
         }
     }
 
-    // Makes room for so many points more.
-    pub fn make_room(&mut self, more: usize) -> Result<(), AllocError>
-        ensures x { self.new.x.items ≡ self.old.x.items }
-        ensures y { self.new.y.items ≡ self.old.y.items }
-        ensures z { self.new.z.items ≡ self.old.z.items }
-    {
-        self.x.reserve(more)?;
-        self.y.reserve(more)?;
-        self.z.reserve(more)?;
-        Ok(())
-    }
-
-    // Makes room for one more point.
+    /// Makes room for one more point.
     pub fn reserve(&mut self) -> Result<(), AllocError>
         ensures x { self.new.x.items ≡ self.old.x.items }
         ensures y { self.new.y.items ≡ self.old.y.items }
@@ -71,7 +64,7 @@ impl ColumnLists {
         Ok(())
     }
 
-    // Adds a point behind the others.
+    /// Adds a point after the others.
     pub fn push_reserved(&mut self, at: &V3)
         requires x_room { vec_len self.old.x < vec_capacity self.old.x }
         requires y_room { vec_len self.old.y < vec_capacity self.old.y }
@@ -86,29 +79,21 @@ impl ColumnLists {
         self.z.push_reserved(short(at.z));
     }
 
-    // The coordinates of a point.
+    /// The coordinates of a point.
     pub fn at(&self, at: usize) -> V3
         requires x { at < vec_len self.now.x }
         requires y { at < vec_len self.now.y }
         requires z { at < vec_len self.now.z }
-        ensures { result ≡ record { x = get_or self.now.x.items at (pos 0); y = get_or self.now.y.items at (pos 0); z = get_or self.now.z.items at (pos 0) } }
+        ensures { result ≡ record {
+          x = get_or self.now.x.items at (pos 0);
+          y = get_or self.now.y.items at (pos 0);
+          z = get_or self.now.z.items at (pos 0);
+        } }
     {
         V3 {
             x: i64::from(self.x[at]),
             y: i64::from(self.y[at]),
             z: i64::from(self.z[at]),
         }
-    }
-
-    // Adds the points of others behind these.
-    pub fn append(&mut self, more: &ColumnLists) -> Result<(), AllocError>
-        ensures x { OnOk result (self.new.x.items ≡ self.old.x.items ++ more.now.x.items) }
-        ensures y { OnOk result (self.new.y.items ≡ self.old.y.items ++ more.now.y.items) }
-        ensures z { OnOk result (self.new.z.items ≡ self.old.z.items ++ more.now.z.items) }
-    {
-        self.x.extend_from_slice(more.x.as_slice())?;
-        self.y.extend_from_slice(more.y.as_slice())?;
-        self.z.extend_from_slice(more.z.as_slice())?;
-        Ok(())
     }
 }

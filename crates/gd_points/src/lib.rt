@@ -2,18 +2,16 @@
 #![tactic(auto)]
 
 mod columns;
+mod index;
 mod number;
-mod parts;
 mod read;
 mod rule;
-mod source;
 mod table;
 #[cfg(test)]
 mod tests;
 
 pub use columns::Columns;
-pub use parts::read_in_parts;
+pub use index::PointIndex;
 pub use read::read_points;
 pub use rule::Rule;
-pub use source::Source;
-pub use table::{PointTable, Row};
+pub use table::{Named, PointTable, Row};

@@ -1,21 +1,25 @@
 // The reader of a points file.
-ghost use Rattle.std.specs.Prelude.{◌≡◌, ◌<◌, ◌≤◌, ◌≤ℤ◌, ◌<ℤ◌, ℤ, pos, negsuc, Some, None, IfOk, OnOk, length, option_map, unsigned_abs};
+ghost use Rattle.std.specs.Prelude.{◌≡◌, ◌<◌, ◌≤◌, ◌≤ℤ◌, ◌<ℤ◌, ℤ, pos, negsuc, Some, None, IfOk, length, option_map};
+ghost use Rattle.std.specs.Prelude.{unsigned_abs};
+ghost use Rattle.gd_base.specs.Causes.{Gives, input_cause};
+ghost use Rattle.gd_base.specs.Limits.{COORDINATE};
 ghost use Rattle.csv.specs.Reading.{default_config, records, strip_bom};
 ghost use Rattle.csv.specs.Records.{fields_of, field_at};
 ghost use Rattle.gd_base.specs.Names.{name_of};
-ghost use Rattle.gd_points.specs.Parts.{Adds, IsNamed, name_in, seen, shown};
-ghost use Rattle.gd_points.specs.Points.{Answers, coordinate_in, five_of, group_in, is_header, next_row, number_in, or_fault, place_in, point_in, points, with_record, with_records};
+ghost use Rattle.gd_points.specs.Fields.{seen, shown};
+ghost use Rattle.gd_points.specs.Named.{IsNamed, name_in};
+ghost use Rattle.gd_points.specs.Points.{coordinate_in, five_of, group_in, is_header, next_row, number_in};
+ghost use Rattle.gd_points.specs.Points.{or_fault, place_in, point_in, points, with_record, with_records};
 ghost use Rattle.gd_points.specs.Reader.{IsBetween, TakesHeader, TakesNext, records_left};
 ghost use Rattle.gd_points.specs.Rules.{fault};
-ghost use Rattle.gd_points.specs.Table.{empty_table, with_point};
+ghost use Rattle.gd_points.specs.Table.{empty_table};
 ghost use Rattle.gd_points.specs.declared.rule.Rule.TheVariants as rule;
 ghost use Rattle.gd_vec.specs.Vector.{IsWithin};
 
 use crate::number::read_number;
-use crate::{PointTable, Rule};
+use crate::{Named, PointTable, Rule};
 use csv::{ByteRecord, Reader, ReaderBuilder};
-use gd_base::limits::{COORDINATE, GROUP, POINTS};
-use gd_base::{Memory, Name, ReadFault};
+use gd_base::{Name, ReadFault, limits};
 use gd_vec::V3;
 use std::alloc::Global;
 
@@ -27,13 +31,6 @@ struct Fields<'a> {
     x: &'a [u8],
     y: &'a [u8],
     z: &'a [u8],
-}
-
-// The name of a point: that of the feature before it, by its number, or another one.
-#[derive(Drop)]
-enum Named {
-    Again(u32),
-    Other(Name),
 }
 
 // A point that was read and isn't in the table yet.
@@ -48,30 +45,28 @@ struct PointRead {
 /// A byte order mark is dropped, and `csv` drops one more.
 /// `Memory` is answered for each error of `csv` too: over bytes in memory it has no other cause.
 pub fn read_points(alloc: Global, bytes: &[u8]) -> Result<PointTable, ReadFault>
-    ensures { Answers (λ t. t) result (points bytes.now) }
+    ensures { Gives input_cause (λ t. t) result (points bytes.now) }
 {
     let mut reader = records_in(alloc, without_mark(bytes));
     let mut entry = ByteRecord::new(alloc);
     read_header(&mut reader, &mut entry)?;
-    let table = read_records(alloc, &mut reader, &mut entry, 0)?;
+    let table = read_records(alloc, &mut reader, &mut entry)?;
     if table.is_empty() {
         return Err(Rule::NoPoints.broken_at(2, 0));
     }
     Ok(table)
 }
 
-// The table of the records that are left. There is room for so many before the first is read.
-pub(crate) fn read_records(
+// The table of the records that are left.
+fn read_records(
     alloc: Global,
     reader: &mut Reader<&[u8]>,
     entry: &mut ByteRecord,
-    room: usize,
 ) -> Result<PointTable, ReadFault>
     requires { IsBetween reader.old }
-    ensures { Answers (λ t. t) result (with_records empty_table (records_left reader.old)) }
+    ensures { Gives input_cause (λ t. t) result (with_records empty_table (records_left reader.old)) }
 {
     let mut table = PointTable::new(alloc);
-    table.make_room(room);
     while read_next(reader, entry)? {
         add_record(alloc, &mut table, entry)?;
     }
@@ -79,7 +74,7 @@ pub(crate) fn read_records(
 }
 
 // The bytes without a byte order mark at their start.
-pub(crate) fn without_mark(bytes: &[u8]) -> &[u8]
+fn without_mark(bytes: &[u8]) -> &[u8]
     ensures { result.now ≡ strip_bom bytes.now }
 {
     match bytes.strip_prefix(b"\xEF\xBB\xBF".as_slice()) {
@@ -89,7 +84,7 @@ pub(crate) fn without_mark(bytes: &[u8]) -> &[u8]
 }
 
 // A reader of the records, each of any length.
-pub(crate) fn records_in(alloc: Global, bytes: &[u8]) -> Reader<&[u8]>
+fn records_in(alloc: Global, bytes: &[u8]) -> Reader<&[u8]>
     ensures between { IsBetween result }
     ensures records { records_left result ≡ records default_config (strip_bom bytes.now) }
 {
@@ -144,33 +139,20 @@ fn are_columns(fields: &Fields<'_>) -> bool
 
 // Adds the point of a record.
 fn add_record(alloc: Global, table: &mut PointTable, entry: &ByteRecord) -> Result<(), ReadFault>
-    ensures { Adds table.new result (with_record table.old (fields_of entry.now)) }
+    ensures { Gives input_cause (λ t. table.new) result (with_record table.old (fields_of entry.now)) }
 {
     let count = table.len();
     let row = count as u32 + 2;
     let Some(fields) = fields_in(entry) else {
         return Err(Rule::Fields.broken_at(row, 0));
     };
-    if count >= POINTS {
+    if count >= limits::POINTS {
         return Err(Rule::TooManyPoints.broken_at(row, 0));
     }
     let point = read_point(alloc, table, &fields, row)?;
-    add_point(table, point)?;
-    Ok(())
-}
-
-fn add_point(table: &mut PointTable, point: PointRead) -> Result<(), Memory>
-    requires room { length table.old.rows < 200000 }
-    requires named { IsNamed table.old point.name }
-    requires group { point.group ≤ 999 }
-    requires within { IsWithin 8000000 point.at }
-    ensures { OnOk result (table.new ≡ with_point table.old (name_in table.old point.name) point.group point.at) }
-{
     let PointRead { name, group, at } = point;
-    match name {
-        Named::Again(feature) => table.push_again(feature, group, at),
-        Named::Other(name) => table.push(name, group, at),
-    }
+    table.push(name, group, at)?;
+    Ok(())
 }
 
 // The fields of a record, if there are five.
@@ -203,8 +185,8 @@ fn read_point(
     fields: &Fields<'_>,
     row: u32,
 ) -> Result<PointRead, ReadFault>
-    ensures answers { Answers (shown table.now) result (point_in row (seen fields.now)) }
-    ensures named { IfOk result (λ point. IsNamed table.now point.name) }
+    ensures answers { Gives input_cause (shown table.now) result (point_in row (seen fields.now)) }
+    ensures named { IfOk result (λ point. IsNamed table.now.names point.name) }
     ensures group { IfOk result (λ point. point.group ≤ 999) }
     ensures within { IfOk result (λ point. IsWithin 8000000 point.at) }
 {
@@ -216,8 +198,8 @@ fn read_point(
 
 // The name that a field spells. Most points have that of the point before them, which needs no memory.
 fn read_name(alloc: Global, table: &PointTable, field: &[u8], row: u32) -> Result<Named, ReadFault>
-    ensures answers { Answers (name_in table.now) result (or_fault (name_of field.now) (fault rule.Name row 1)) }
-    ensures named { IfOk result (λ name. IsNamed table.now name) }
+    ensures answers { Gives input_cause (name_in table.now.names) result (or_fault (name_of field.now) (fault rule.Name row 1)) }
+    ensures named { IfOk result (λ name. IsNamed table.now.names name) }
 {
     if let Some(feature) = table.last_named(field) {
         return Ok(Named::Again(feature));
@@ -229,15 +211,15 @@ fn read_name(alloc: Global, table: &PointTable, field: &[u8], row: u32) -> Resul
 }
 
 fn read_group(field: &[u8], row: u32) -> Result<u32, ReadFault>
-    ensures answers { Answers (λ group. group) result (group_in row field.now) }
+    ensures answers { Gives input_cause (λ group. group) result (group_in row field.now) }
     ensures within { IfOk result (λ group. group ≤ 999) }
 {
-    let group = read_within(field, row, 2, 0, i64::from(GROUP))?;
+    let group = read_within(field, row, 2, 0, i64::from(limits::GROUP))?;
     Ok(group.unsigned_abs() as u32)
 }
 
 fn read_place(fields: &Fields<'_>, row: u32) -> Result<V3, ReadFault>
-    ensures answers { Answers (λ at. at) result (place_in row (seen fields.now)) }
+    ensures answers { Gives input_cause (λ at. at) result (place_in row (seen fields.now)) }
     ensures within { IfOk result (λ at. IsWithin 8000000 at) }
 {
     let x = read_coordinate(fields.x, row, 3)?;
@@ -247,17 +229,17 @@ fn read_place(fields: &Fields<'_>, row: u32) -> Result<V3, ReadFault>
 }
 
 fn read_coordinate(field: &[u8], row: u32, column: u32) -> Result<i64, ReadFault>
-    ensures answers { Answers (λ x. x) result (coordinate_in row column field.now) }
-    ensures within { IfOk result (λ x. unsigned_abs x ≤ 8000000) }
+    ensures answers { Gives input_cause (λ x. x) result (coordinate_in row column field.now) }
+    ensures within { IfOk result (λ x. unsigned_abs x ≤ COORDINATE) }
 {
-    read_within(field, row, column, -COORDINATE, COORDINATE)
+    read_within(field, row, column, -limits::COORDINATE, limits::COORDINATE)
 }
 
 // The number of a field, from `low` to `high`.
 fn read_within(field: &[u8], row: u32, column: u32, low: i64, high: i64) -> Result<i64, ReadFault>
     requires low { negsuc 999999999 <ℤ low }
     requires high { high <ℤ pos 1000000000 }
-    ensures answers { Answers (λ n. n) result (number_in row column low high field.now) }
+    ensures answers { Gives input_cause (λ n. n) result (number_in row column low high field.now) }
     ensures low { IfOk result (λ n. low ≤ℤ n) }
     ensures high { IfOk result (λ n. n ≤ℤ high) }
 {

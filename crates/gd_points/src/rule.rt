@@ -22,6 +22,8 @@ pub enum Rule {
     Range,
     /// There is a point.
     NoPoints,
+    /// The file has at most 134,217,728 bytes. It is broken before a record is read, so its place is row 0, column 0.
+    TooLong,
 }
 
 impl Rule {
@@ -37,17 +39,25 @@ impl Rule {
             Rule::Range => 14,
             Rule::TooManyPoints => 15,
             Rule::NoPoints => 16,
+            Rule::TooLong => 17,
         }
     }
 
-    // The fault of a row, counted from 1, and of a column from 1, or 0 for the whole row.
-    pub(crate) fn broken_at(self, row: u32, column: u32) -> ReadFault
-        ensures { result ≡ ReadFault.Input (fault self row column) }
+    /// The fault of a row, counted from 1, and of a column from 1, or 0 for the whole row. Row 0 is the whole file.
+    pub fn fault(self, row: u32, column: u32) -> InputFault
+        ensures { result ≡ fault self row column }
     {
-        ReadFault::Input(InputFault {
+        InputFault {
             code: self.code(),
             row,
             column,
-        })
+        }
+    }
+
+    /// That fault as the answer of a reader.
+    pub(crate) fn broken_at(self, row: u32, column: u32) -> ReadFault
+        ensures { result ≡ ReadFault.Input (fault self row column) }
+    {
+        ReadFault::Input(self.fault(row, column))
     }
 }

@@ -1,34 +1,48 @@
 // The table of points.
-ghost use Rattle.std.specs.Prelude.{◌≡◌, ◌<◌, ◌≤◌, ◌^◌, ◌++◌, [], length, OnOk, OnErr, slice_get, get_or, Some, IfOk, IfSome, map, position, nat_eq, true, ◌+◌, ◌==◌};
-ghost use Rattle.indexmap.specs.IndexSet.{insert_all};
-ghost use Rattle.gd_points.specs.Joined.{numbers_of, renumbered_label};
+ghost use Rattle.std.specs.Prelude.{◌≡◌, ◌<◌, ◌≤◌, ◌^◌, length, OnOk, OnErr, slice_get, Some, IfOk, IfSome, position};
+ghost use Rattle.std.specs.Prelude.{map, nat_eq, true, ◌==◌};
+ghost use Rattle.indexmap.specs.IndexSet.{insert_key};
+ghost use Rattle.gd_points.specs.Named.{IsNamed, name_in};
+ghost use Rattle.gd_points.specs.Table.{AreNames};
 ghost use Rattle.gd_base.specs.Names.{is_name};
 ghost use Rattle.std.specs.Cmp.Lexicographic.{pointwise};
-ghost use Rattle.std.specs.List.{All, Any, IsDistinct};
-ghost use Rattle.gd_points.specs.Columns.{AreColumns};
+ghost use Rattle.std.specs.List.{All, Any, IsDistinct, position_or_len};
+ghost use Rattle.gd_base.specs.Limits.{POINTS};
+ghost use Rattle.gd_points.specs.Columns.{AreColumns, label_of};
 ghost use Rattle.gd_vec.specs.Vector.{IsWithin};
 
 use crate::columns::{ColumnLists, Columns};
 use gd_base::{Memory, Name};
 use gd_vec::V3;
 use indexmap::IndexSet;
-use std::alloc::{AllocError, Global};
+use std::alloc::Global;
 use std::marker::Model;
 
-/// A point of a feature. `feature` is the number of the feature in its table, from 0, `group` its group number,
-/// 0 to 999, and `at` its coordinates in units of 0.1 micrometre.
+/// A point of a feature.
 #[derive(Clone, Copy, Debug, PartialEq, Eq)]
 pub struct Row {
+    /// The number of the feature in its table, from 0.
     pub feature: u32,
+    /// The number of its group, 0 to 999.
     pub group: u32,
+    /// Its coordinates, in units of 0.1 micrometre.
     pub at: V3,
 }
 
-// The feature and the group of a point, by their numbers.
+/// Which feature a point is of.
+#[derive(Drop)]
+pub enum Named {
+    /// One that has points, by its number.
+    Again(u32),
+    /// The one with this name, whether it has points or not.
+    Other(Name),
+}
+
+/// The feature and the group of a point, by their numbers.
 #[derive(Clone, Copy)]
-struct Label {
-    feature: u32,
-    group: u32,
+pub(crate) struct Label {
+    pub feature: u32,
+    pub group: u32,
 }
 
 /// The points of a part, in order, and the names of their features in the order of their first points.
@@ -46,79 +60,42 @@ impl Model for PointTable {
 
     ghost Value = { Table };
 
-    ghost view = { λ t. record { rows = rows_of t.labels.items t.columns.x.items t.columns.y.items t.columns.z.items; names = t.names.keys } };
+    ghost view = { λ t. record {
+      rows = rows_of t.labels.items t.columns.x.items t.columns.y.items t.columns.z.items;
+      names = t.names.keys;
+    } };
 
-    ghost invariant = { λ t. HasColumns (record { rows = rows_of t.labels.items t.columns.x.items t.columns.y.items t.columns.z.items; names = t.names.keys }) t.labels.items t.columns.x.items t.columns.y.items t.columns.z.items };
+    ghost invariant = { λ t. HasColumns (record {
+      rows = rows_of t.labels.items t.columns.x.items t.columns.y.items t.columns.z.items;
+      names = t.names.keys;
+    }) t.labels.items t.columns.x.items t.columns.y.items t.columns.z.items };
 }
 
-// A name once more.
-fn again(alloc: Global, name: &Name) -> Result<Name, Memory>
-    ensures { IfOk result (λ other. other ≡ name.now) }
-{
-    match Name::of(alloc, name.bytes())? {
-        Some(other) => Ok(other),
-        // the bytes of a name are a name's
-        None => Err(Memory),
-    }
-}
-
-// Adds names behind others, and gives the numbers that they get.
-fn numbers_behind(
-    alloc: Global,
-    names: &mut IndexSet<Name>,
-    more: &IndexSet<Name>,
-) -> Result<Vec<u32>, Memory>
-    requires few { length names.old.keys + length more.now.keys ≤ 200000 }
+// The number of a feature. A name that is new gets the next one.
+fn number_for(names: &mut IndexSet<Name>, named: Named) -> Result<u32, Memory>
+    requires few { length names.old.keys < POINTS }
+    requires spelled { AreNames names.old.keys }
     requires distinct { IsDistinct (pointwise nat_eq) names.old.keys }
+    requires named { IsNamed names.old.keys named }
+    ensures number { IfOk result (λ n.
+        n ≡ position_or_len (pointwise nat_eq (name_in names.old.keys named)) names.old.keys) }
+    ensures names { OnOk result
+        (names.new.keys ≡ insert_key (pointwise nat_eq) names.old.keys (name_in names.old.keys named)) }
     ensures distinct { OnOk result (IsDistinct (pointwise nat_eq) names.new.keys) }
-    ensures names { OnOk result (names.new.keys ≡ insert_all (pointwise nat_eq) names.old.keys more.now.keys) }
-    ensures numbers { IfOk result (λ numbers. numbers.items ≡ numbers_of names.old.keys more.now.keys) }
+    ensures name { OnOk result (is_name (name_in names.old.keys named) ≡ true) }
+    ensures err { OnErr result (names.new.keys ≡ names.old.keys) }
 {
-    let mut numbers = Vec::new(alloc);
-    for name in more {
-        let (number, _) = names.insert_full(again(alloc, name)?)?;
-        numbers.push(number as u32)?;
+    match named {
+        Named::Again(feature) => Ok(feature),
+        Named::Other(name) => {
+            let (feature, _) = names.insert_full(name)?;
+            Ok(feature as u32)
+        }
     }
-    Ok(numbers)
-}
-
-fn renumber_label(label: &mut Label, numbers: &[u32])
-    requires { label.old.feature < length numbers.now }
-    ensures { label.new ≡ renumbered_label numbers.now label.old }
-{
-    label.feature = numbers[label.feature as usize];
-}
-
-// Gives the features of labels these numbers.
-#[tactic(auto, using(crate::proofs::Whole::feature_of_label))]
-fn renumber(labels: &mut [Label], numbers: &[u32])
-    requires { All (λ label. label.feature < length numbers.now) labels.old }
-    ensures { labels.new ≡ map (renumbered_label numbers.now) labels.old }
-{
-    for label in labels.iter_mut() {
-        renumber_label(label, numbers);
-    }
-}
-
-// Adds labels behind others, and gives their features these numbers.
-fn append_renumbered(
-    labels: &mut Vec<Label>,
-    more: &[Label],
-    numbers: &[u32],
-) -> Result<(), AllocError>
-    requires { All (λ label. label.feature < length numbers.now) more.now }
-    ensures { OnOk result (labels.new.items ≡ labels.old.items ++ map (renumbered_label numbers.now) more.now) }
-{
-    let count = labels.len();
-    labels.extend_from_slice(more)?;
-    let (_, behind) = labels.as_mut_slice().split_at_mut(count);
-    renumber(behind, numbers);
-    Ok(())
 }
 
 impl PointTable {
     ghost use Rattle.gd_points.specs.Table.{Table, empty_table, with_point};
-    ghost use Rattle.gd_points.specs.Joined.{joined};
 
     /// A table with no points.
     pub fn new(alloc: Global) -> PointTable
@@ -131,71 +108,23 @@ impl PointTable {
         }
     }
 
-    /// Adds a point behind the others. A name that is new gets the next feature number.
-    /// `group` is at most 999, the coordinates are in units of 0.1 micrometre and within 8,000,000,
-    /// and there are fewer than 200,000 points. On `Memory` the table is as it was.
-    pub fn push(&mut self, name: Name, group: u32, at: V3) -> Result<(), Memory>
-        requires room { length self.old.rows < 200000 }
+    /// Adds a point after the others. `named` says its feature: by the number of one that has points, or by a name.
+    /// A name that is new gets the next feature number. `group` is at most 999, the coordinates are in units of 0.1
+    /// micrometre and within 8,000,000, and there are fewer than 200,000 points. On `Memory` the table is as it was.
+    pub fn push(&mut self, named: Named, group: u32, at: V3) -> Result<(), Memory>
+        requires room { length self.old.rows < POINTS }
+        requires named { IsNamed self.old.names named }
         requires group { group ≤ 999 }
         requires within { IsWithin 8000000 at }
-        ensures ok { OnOk result (self.new ≡ with_point self.old name group at) }
+        ensures ok { OnOk result (self.new ≡ with_point self.old (name_in self.old.names named) group at) }
         ensures err { OnErr result (self.new ≡ self.old) }
     {
         self.labels.reserve(1)?;
         self.columns.reserve()?;
-        let (feature, _) = self.names.insert_full(name)?;
-        let label = Label {
-            feature: feature as u32,
-            group,
-        };
-        self.labels.push_reserved(label);
-        self.columns.push_reserved(&at);
-        Ok(())
-    }
-
-    /// Adds a point of a feature that has points.
-    pub(crate) fn push_again(&mut self, feature: u32, group: u32, at: V3) -> Result<(), Memory>
-        requires room { length self.old.rows < 200000 }
-        requires feature { feature < length self.old.names }
-        requires group { group ≤ 999 }
-        requires within { IsWithin 8000000 at }
-        ensures ok { OnOk result (self.new ≡ with_point self.old (get_or self.old.names feature []) group at) }
-        ensures err { OnErr result (self.new ≡ self.old) }
-    {
-        self.labels.reserve(1)?;
-        self.columns.reserve()?;
+        let feature = number_for(&mut self.names, named)?;
         self.labels.push_reserved(Label { feature, group });
         self.columns.push_reserved(&at);
         Ok(())
-    }
-
-    /// Makes room for so many points more, which spares a table that grows its moves. Want of memory is told by those
-    /// points.
-    pub(crate) fn make_room(&mut self, more: usize)
-        ensures { self.new ≡ self.old }
-    {
-        let _ = self.labels.reserve(more);
-        let _ = self.columns.make_room(more);
-    }
-
-    /// One table of the points of this one and then those of another one, whose features keep their names.
-    pub(crate) fn joined_to(self, alloc: Global, behind: &PointTable) -> Result<PointTable, Memory>
-        requires { length self.rows + length behind.now.rows ≤ 200000 }
-        ensures { IfOk result (λ t. t ≡ joined self behind.now) }
-    {
-        let PointTable {
-            mut labels,
-            mut columns,
-            mut names,
-        } = self;
-        let numbers = numbers_behind(alloc, &mut names, &behind.names)?;
-        append_renumbered(&mut labels, behind.labels.as_slice(), numbers.as_slice())?;
-        columns.append(&behind.columns)?;
-        Ok(PointTable {
-            labels,
-            columns,
-            names,
-        })
     }
 
     /// The feature of the last point, if its name has these bytes.
@@ -216,7 +145,7 @@ impl PointTable {
     #[inline]
     pub fn len(&self) -> usize
         ensures count { result ≡ length self.now.rows }
-        ensures few { result ≤ 200000 }
+        ensures few { result ≤ POINTS }
     {
         self.labels.len()
     }
@@ -243,10 +172,19 @@ impl PointTable {
         })
     }
 
+    /// The features and the groups of the points in order.
+    pub(crate) fn labels(&self) -> &[Label]
+        ensures labels { result.now ≡ map label_of self.now.rows }
+        ensures few { length result.now ≤ POINTS }
+        ensures groups { All (λ row. row.group ≤ 999) self.now.rows }
+    {
+        self.labels.as_slice()
+    }
+
     /// The coordinates of the points in order.
     pub fn columns(&self) -> Columns<'_>
         ensures columns { AreColumns result.x.now result.y.now result.z.now self.now.rows }
-        ensures few { length self.now.rows ≤ 200000 }
+        ensures few { length self.now.rows ≤ POINTS }
         ensures within { All (λ row. IsWithin 8000000 row.at) self.now.rows }
     {
         Columns {

@@ -1,5 +1,7 @@
-pub mod Claimed
-pub mod FiveWords
-pub mod Moved
-pub mod Certified
 pub mod Reported
+pub mod Asked
+pub mod Ended
+pub mod Laws
+pub mod Certified
+pub mod Claimed
+pub mod Stored

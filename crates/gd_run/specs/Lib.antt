@@ -1,10 +1,11 @@
-pub mod Words
-pub mod Commands
-pub mod Texts
+pub mod Inputs
 pub mod Answers
+pub mod FlatCommand
+pub mod CheckCommand
+pub mod Asks
+pub mod Runs
 pub mod Claims
 pub mod Endings
-pub mod Lines
-pub mod Reading
+pub mod Views
 pub mod Reports
 pub mod Outcomes

@@ -1,13 +1,24 @@
 -- A report, or why there is none.
-use Rattle.std.specs.Prelude.{ℕ, ◌≡◌, ◌≤◌, ◌⊎◌, List, Option, Some, None, Result, Ok, Err, IfSome}
+use Rattle.std.specs.Prelude.{ℕ, ◌≡◌, ◌≤◌, ◌<◌, ◌++◌, ◌⊎◌, Bool, true, List, Some, Result, Ok, Err, IfSome, length, take}
+use Rattle.std.specs.Option.{option_len}
 use Rattle.std.specs.String.{string_bytes}
-use Rattle.gd_run.specs.Endings.{IsOfFile, IsToLoad}
-use Rattle.gd_run.specs.Texts.{wrong_words_text}
-use Rattle.gd_run.specs.Words.{Ask, Asks, Flat, IsFlatCommand, IsNoCommand}
-use Rattle.gd_world.specs.Shelf.{Files}
+use Rattle.gd_base.specs.Causes.{Rose}
+use Rattle.gd_base.specs.Limits.{FILE_BYTES}
+use Rattle.gd_cert.specs.Bounds.{IsInBounds}
+use Rattle.gd_cert.specs.Certificates.{certificate_of}
+use Rattle.gd_cert.specs.Text.{KeepsLines, text}
+use Rattle.gd_report.specs.Said.{Said, said_in, status_of}
+use Rattle.gd_report.specs.declared.ending.Ending.{Ending}
+use Rattle.gd_run.specs.Endings.{StoresDone}
+use Rattle.gd_run.specs.Views.{stores_in}
+use Rattle.gd_run.specs.declared.inputs.Inputs.{Inputs}
+use Rattle.gd_run.specs.declared.report.NamedFile.{NamedFile}
+use Rattle.gd_run.specs.declared.report.Refusal.{Refusal}
+use Rattle.gd_run.specs.declared.report.Refusal.TheVariants as refusal
 use Rattle.gd_run.specs.declared.report.Report.{Report}
 use Rattle.gd_run.specs.declared.report.Stop.{Stop}
 use Rattle.gd_run.specs.declared.report.Stop.TheVariants as stop
+use Rattle.gd_world.specs.Shelf.{Files, IsWord, PutsPrefix, Word}
 
 -- what is so of a report, and of the word of a file that could not be read. Of want of memory nothing is said
 abbrev pub OnReport : (Report → Type 0) → (List ℕ → Type 0) → Result Report Stop → Type 0
@@ -27,43 +38,38 @@ IsUnreadAnd Q (Ok report) = ⊥
 IsUnreadAnd Q (Err (stop.Unread word)) = Q word.now
 IsUnreadAnd Q (Err stop.Memory) = ⊥
 
--- ---- what is so of the reports of a command, whatever the shelf tells
--- a file goes with a verdict alone, under the word of the certificate
-pub record IsFlatKind (flat : Flat) (r : Report) : Type 0 where
-  pub status : r.line.status ≤ 3
-  pub named : IfSome r.file (λ f. flat.certificate ≡ Some f.name.now)
-  pub refused : 3 ≤ r.line.status → r.file ≡ None
+-- what the readers say of what was read: a table has a point, and a certificate can be checked
+pub record IsSound (i : Inputs) : Type 0 where
+  pub some_points : IfSome i.table (λ t. 0 < length t.rows)
+  pub certified : IfSome i.certificate (λ c. IsInBounds (certificate_of c) × KeepsLines c × (length (text (certificate_of c)) ≤ FILE_BYTES))
 
-pub record IsCheckKind (r : Report) : Type 0 where
-  pub status : (r.line.status ≡ 0) ⊎ (r.line.status ≡ 3) ⊎ (r.line.status ≡ 8)
-  pub nothing : r.file ≡ None
+-- what is so of the inputs that were read, of what is said of one that was refused, and of the word of one that could not be read
+abbrev pub OnInputs : (Inputs → Type 0) → (Said → Type 0) → (List ℕ → Type 0) → Result Inputs Refusal → Type 0
+OnInputs P R Q (Ok inputs) = P inputs
+OnInputs P R Q (Err (refusal.Refused line)) = R (said_in line)
+OnInputs P R Q (Err (refusal.Unread word)) = Q word.now
+OnInputs P R Q (Err refusal.Memory) = Unit {0}
 
--- the word of a certificate that the words name
-pub record IsCertificateOf (words : List (List ℕ)) (name : List ℕ) : Type 0 where
-  pub flat : Flat
-  pub command : IsFlatCommand words flat
-  pub wanted : flat.certificate ≡ Some name
+-- an ending of an answer: of a verdict, a check, a refusal or wrong words
+abbrev pub IsPlain : Ending → Type 0
+IsPlain e = (status_of e ≤ 4) ⊎ (status_of e ≡ 8)
 
--- a status that a report may have: it is 4 exactly where the words are of no command, and a file is stored with none above 2
-pub record IsKind (words : List (List ℕ)) (r : Report) : Type 0 where
-  pub status : (r.line.status ≤ 4) ⊎ (r.line.status ≡ 8)
-  pub four : r.line.status ≡ 4 → IsNoCommand words × (string_bytes r.line.text ≡ wrong_words_text)
-  pub wrong : IsNoCommand words → r.line.status ≡ 4
-  pub named : IfSome r.file (λ f. IsCertificateOf words f.name.now)
-  pub refused : 3 ≤ r.line.status → r.file ≡ None
+-- the store of a report's file failed, and nothing was put
+pub record StoreFails (r : Report) (tells : Bool) (old new : Files) (failed : Word) (faults faults_now : ℕ) (sink_tells : Bool) (before now : List ℕ) : Type 0 where
+  pub file : NamedFile
+  pub of_report : r.file ≡ Some file
+  pub failed_word : IsWord failed file.name.now true
+  pub rose : Rose faults faults_now
+  pub prefix : tells ≡ true → PutsPrefix old new file.name.now file.bytes.items
+  pub nothing : sink_tells ≡ true → now ≡ before
 
--- a word of a file that the words ask to read
-pub record FailsToLoad (words : List (List ℕ)) (word : List ℕ) : Type 0 where
-  pub ask : Ask
-  pub asks : Asks words ask
-  pub of_file : IsOfFile ask word
+-- the put of a report's line failed, after its store
+pub record PutFails (r : Report) (tells : Bool) (old new : Files) (sink_tells : Bool) (before now : List ℕ) (faults faults_now : ℕ) : Type 0 where
+  pub rose : Rose faults faults_now
+  pub stored : tells ≡ true → StoresDone (stores_in r.file) old new
+  pub prefix : sink_tells ≡ true → (n : ℕ) × (now ≡ before ++ take n (string_bytes r.line.text))
 
--- the word of a file that was to be loaded: those before it were read
-pub record IsUnreadIn (words : List (List ℕ)) (files : Files) (word : List ℕ) : Type 0 where
-  pub ask : Ask
-  pub asks : Asks words ask
-  pub to_load : IsToLoad ask files word
-
--- a status of an answer
-abbrev pub IsPlainStatus : ℕ → Type 0
-IsPlainStatus status = (status ≤ 4) ⊎ (status ≡ 8)
+-- how many stores a report wants
+abbrev pub stores_wanted : Result Report Stop → ℕ
+stores_wanted (Ok r) = option_len r.file
+stores_wanted (Err e) = 0

@@ -1,16 +1,16 @@
 //! The top call of gdteval: words and files to one text and a status.
 #![tactic(auto)]
 
-mod answering;
-mod checking;
+mod certificate;
+mod checkflat;
 mod command;
-mod judging;
-mod points_file;
+mod decision;
+mod flat;
+mod inputs;
 mod program;
+mod reading;
 mod report;
 #[cfg(test)]
 mod tests;
-mod texts;
-mod words;
 
 pub use program::run;

@@ -137,7 +137,7 @@ fn calls_fail_in_turn(rt: HostRuntime) -> Result<(), Fail> {
         let words = words_of(alloc, line)?;
         let mut shelf = shelf_of(alloc, CORNER, before)?;
         shelf.fail.push(call)?;
-        shelf.part = part;
+        shelf.prefix = part;
         let mut out = MemSink::new(alloc);
         out.fail.push(put)?;
         let ended = run(&rt, alloc, &words, &mut shelf, &mut out);

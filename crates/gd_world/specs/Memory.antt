@@ -1,5 +1,6 @@
 -- How calls that are kept in memory are counted, and which of them fail.
-use Rattle.std.specs.Prelude.{ℕ, ◌≡◌, ◌+◌, ◌-◌, ◌^◌, ◌⊎◌, Bool, true, false, List, Option, None, Result, Ok, Err, min, nat_eq}
+use Rattle.std.specs.Prelude.{ℕ, ◌≡◌, ◌+◌, ◌-◌, ◌^◌, ◌⊎◌, Bool, true, false, List, Option, None, Result, Ok, Err, min}
+use Rattle.std.specs.Prelude.{nat_eq}
 use Rattle.std.specs.List.{list_any}
 use Rattle.gd_world.specs.declared.shelf.LoadFault.{LoadFault}
 use Rattle.gd_world.specs.declared.shelf.LoadFault.TheVariants as load_fault

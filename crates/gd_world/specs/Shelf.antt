@@ -1,5 +1,6 @@
 -- What a shelf of files holds, and what its calls do to it.
-use Rattle.std.specs.Prelude.{ℕ, ◌≡◌, ◌≢◌, ◌⊎◌, Bool, true, false, List, [], ◌∷◌, Option, Some, None, Result, Ok, Err, take, nat_eq, if◌then◌else◌}
+use Rattle.std.specs.Prelude.{ℕ, ◌≡◌, ◌≢◌, ◌⊎◌, Bool, true, false, List, [], ◌∷◌, Option, Some, None, Result, Ok, Err}
+use Rattle.std.specs.Prelude.{take, nat_eq, if◌then◌else◌}
 use Rattle.std.specs.Option.{unwrap_or}
 use Rattle.std.specs.Cmp.Lexicographic.{pointwise}
 use Rattle.std.specs.declared.vec.Vec.{Vec}
@@ -22,8 +23,8 @@ pub record Puts (old new : Files) (name bytes : List ℕ) : Type 0 where
   pub set : new name ≡ Some bytes
   pub others : (other : List ℕ) → other ≢ name → new other ≡ old other
 
--- the name holds what it held or a front of these bytes, and every other name what it held
-pub record PutsPart (old new : Files) (name bytes : List ℕ) : Type 0 where
+-- the name holds what it held or a prefix of these bytes, and every other name what it held
+pub record PutsPrefix (old new : Files) (name bytes : List ℕ) : Type 0 where
   pub set : (new name ≡ old name) ⊎ ((n : ℕ) × (new name ≡ Some (take n bytes)))
   pub others : (other : List ℕ) → other ≢ name → new other ≡ old other
 

@@ -1,12 +1,13 @@
 // Entries of names and bytes, of which the first of a name counts.
-ghost use Rattle.std.specs.Prelude.{◌≡◌, ◌≤◌, ◌<◌, ◌∷◌, [], length, option_map, take, drop, OnOk, OnErr, IsErrOf};
+ghost use Rattle.std.specs.Prelude.{◌≡◌, ◌≤◌, ◌<◌, ◌∷◌, [], length, option_map, OnOk, OnErr, IsErrOf};
+ghost use Rattle.gd_base.specs.Limits.{FILE_BYTES};
 ghost use Rattle.gd_world.specs.Shelf.{held};
 
 use crate::LoadFault;
 use gd_base::limits::FILE_BYTES;
 use gd_base::{Memory, Name2};
 
-// What the first entry of the name holds.
+/// What the first entry of the name holds.
 pub(crate) fn first_of<'a>(entries: &'a [(Name2, Vec<u8>)], name: &[u8]) -> Option<&'a Vec<u8>>
     ensures { option_map (λ v. v.now.items) result ≡ held entries.now name.now }
 {
@@ -18,7 +19,7 @@ pub(crate) fn first_of<'a>(entries: &'a [(Name2, Vec<u8>)], name: &[u8]) -> Opti
     None
 }
 
-// Puts an entry before all others, so that the name holds its bytes.
+/// Puts an entry before all others, so that the name holds its bytes.
 pub(crate) fn put_first(
     entries: &mut Vec<(Name2, Vec<u8>)>,
     name: Name2,
@@ -31,12 +32,12 @@ pub(crate) fn put_first(
     Ok(())
 }
 
-// Copies what a name holds, if it isn't too long.
+/// Copies what a name holds, if it isn't too long.
 pub(crate) fn copy_held(bytes: &[u8], into: &mut Vec<u8>) -> Result<(), LoadFault>
     requires { into.old.items ≡ [] }
     ensures bytes { OnOk result (into.new.items ≡ bytes.now) }
-    ensures short { OnOk result (length into.new.items ≤ 134217728) }
-    ensures long { IsErrOf result LoadFault.TooLong → 134217728 < length bytes.now }
+    ensures short { OnOk result (length into.new.items ≤ FILE_BYTES) }
+    ensures long { IsErrOf result LoadFault.TooLong → FILE_BYTES < length bytes.now }
     ensures sure { ¬ IsErrOf result LoadFault.Failed }
     ensures refused { OnErr result (into.new.items ≡ []) }
 {
@@ -44,18 +45,4 @@ pub(crate) fn copy_held(bytes: &[u8], into: &mut Vec<u8>) -> Result<(), LoadFaul
         return Err(LoadFault::TooLong);
     }
     Ok(into.extend_from_slice(bytes)?)
-}
-
-// Copies the bytes from a place on to the front of `into`, as many as fit, and says how many that were.
-pub(crate) fn copy_from(bytes: &[u8], from: usize, into: &mut [u8]) -> usize
-    ensures count { result ≤ length into.new }
-    ensures bytes { take result into.new ≡ take (length into.new) (drop from bytes.now) }
-{
-    if from > bytes.len() {
-        return 0;
-    }
-    let rest = &bytes[from..];
-    let count = rest.len().min(into.len());
-    into[..count].copy_from_slice(&rest[..count]);
-    count
 }

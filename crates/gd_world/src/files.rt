@@ -1,13 +1,12 @@
 // The files of the system. No clause tells what they hold.
-ghost use Rattle.std.specs.Prelude.{◌≡◌, ◌≤◌, ℕ, [], false, None, length, OnOk, IfSome};
+ghost use Rattle.std.specs.Prelude.{◌≡◌, ◌+◌, ◌≤◌, ℕ, [], false, None, length, OnOk};
+ghost use Rattle.gd_base.specs.Limits.{FILE_BYTES};
 ghost use Rattle.gd_world.specs.Memory.{one_more};
 
-use crate::streams::{fill, read_all, write_all};
-use crate::{FileMark, LoadFault, Shelf, StoreFault};
+use crate::streams::{read_all, write_all};
+use crate::{LoadFault, Shelf, StoreFault};
 use std::alloc::Global;
 use std::fs;
-use std::io::{Seek, SeekFrom};
-use std::os::unix::fs::MetadataExt;
 use std::rt::Files;
 
 /// The files of the system, whose names are paths.
@@ -56,7 +55,7 @@ fn read_file<R: Files>(
     into: &mut Vec<u8>,
 ) -> Result<(), LoadFault>
     requires { into.old.items ≡ [] }
-    ensures { OnOk result (length into.new.items ≤ 134217728) }
+    ensures { OnOk result (length into.new.items ≤ FILE_BYTES) }
 {
     match fs::open(rt, name) {
         Ok(mut file) => read_all(alloc, &mut file, into),
@@ -72,29 +71,7 @@ fn write_file<R: Files>(rt: &R, name: &str, bytes: &[u8]) -> bool {
     }
 }
 
-// What a regular file is known by. None stands for all else, and for a fault.
-fn mark_of<R: Files>(rt: &R, name: &str) -> Option<FileMark> {
-    let data = fs::metadata(rt, name).ok()?;
-    if !data.is_file() {
-        return None;
-    }
-    Some(FileMark {
-        size: usize::try_from(data.len()).ok()?,
-        place: (data.dev(), data.ino()),
-        changed: (data.ctime(), data.ctime_nsec()),
-    })
-}
-
-// Reads the file of a name from a byte on into the front of `into`. None is a fault.
-fn peek_file<R: Files>(rt: &R, name: &str, from: usize, into: &mut [u8]) -> Option<usize>
-    ensures { IfSome result (λ count. count ≤ length into.new) }
-{
-    let mut file = fs::open(rt, name).ok()?;
-    file.seek(SeekFrom::Start(from as u64)).ok()?;
-    fill(&mut file, into)
-}
-
-impl<'a, R: Files + Sync> Shelf for FileShelf<'a, R> {
+impl<'a, R: Files> Shelf for FileShelf<'a, R> {
     ghost tells = { false };
 
     ghost holds = { λ s name. None };
@@ -102,6 +79,8 @@ impl<'a, R: Files + Sync> Shelf for FileShelf<'a, R> {
     ghost faults = { λ s. s.faults };
 
     ghost failed = { λ s. (s.failed.items, s.storing) };
+
+    ghost calls = { λ s. 0 };
 
     fn load(&mut self, alloc: Global, name: &str, into: &mut Vec<u8>) -> Result<(), LoadFault> {
         into.clear();
@@ -123,14 +102,5 @@ impl<'a, R: Files + Sync> Shelf for FileShelf<'a, R> {
             return Err(StoreFault::Failed);
         }
         Ok(())
-    }
-
-    // Opens nothing: to open a named pipe would disturb its writer.
-    fn mark(&self, name: &str) -> Option<FileMark> {
-        mark_of(self.rt, name)
-    }
-
-    fn peek(&self, name: &str, from: usize, into: &mut [u8]) -> Option<usize> {
-        peek_file(self.rt, name, from, into)
     }
 }

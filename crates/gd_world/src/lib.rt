@@ -17,6 +17,6 @@ pub use files::FileShelf;
 pub use mem_shelf::MemShelf;
 pub use mem_sink::MemSink;
 pub use output::StdSink;
-pub use shelf::{FileMark, LoadFault, Shelf, StoreFault};
+pub use shelf::{LoadFault, Shelf, StoreFault};
 pub use sink::{PutFault, Sink};
 pub use sure_shelf::SureShelf;

@@ -1,15 +1,17 @@
 // A shelf in memory, whose calls fail where a list says so.
-ghost use Rattle.std.specs.Prelude.{◌≡◌, ◌⊎◌, ◌≤◌, ◌<◌, ◌∷◌, ℕ, [], true, false, Some, None, take, drop, length, option_map, OnOk, OnErr, IfSome, IsSomeAnd, IsErrOf};
+ghost use Rattle.std.specs.Prelude.{◌≡◌, ◌⊎◌, ◌≤◌, ◌<◌, ◌+◌, ◌∷◌, ℕ, [], true, false, Some, None, take, length, OnOk, OnErr};
+ghost use Rattle.std.specs.Prelude.{IsSomeAnd, IsErrOf};
+ghost use Rattle.gd_base.specs.Limits.{FILE_BYTES};
 ghost use Rattle.gd_world.specs.Memory.{is_due, one_more, LoadCause, StoreCause};
 ghost use Rattle.gd_world.specs.Shelf.{held, Puts, LoadWord, StoreWord};
 
-use crate::entries::{copy_from, copy_held, first_of, put_first};
-use crate::{FileMark, LoadFault, Shelf, StoreFault};
+use crate::entries::{copy_held, first_of, put_first};
+use crate::{LoadFault, Shelf, StoreFault};
 use gd_base::{Memory, Name2};
 use std::alloc::Global;
 
 /// A shelf in memory. Loads and stores are calls, numbered from 1 in one row, and a call whose number
-/// stands in `fail` fails. A store that fails leaves the first `part` bytes of the new ones, or all
+/// stands in `fail` fails. A store that fails leaves the first `prefix` bytes of the new ones, or all
 /// where there are fewer.
 #[derive(Drop)]
 pub struct MemShelf {
@@ -18,7 +20,7 @@ pub struct MemShelf {
     /// The numbers of the calls that fail.
     pub fail: Vec<u64>,
     /// How many bytes a store that fails leaves.
-    pub part: u64,
+    pub prefix: u64,
     /// How many calls were made. The count stops at 2^64 - 1.
     pub calls: u64,
     /// How many calls failed. The count stops at 2^64 - 1.
@@ -34,13 +36,13 @@ impl MemShelf {
     pub fn new(alloc: Global) -> MemShelf
         ensures files { result.files.items ≡ [] }
         ensures fail { result.fail.items ≡ [] }
-        ensures counts { (result.calls ≡ 0) × (result.faults ≡ 0) × (result.part ≡ 0) }
+        ensures counts { (result.calls ≡ 0) × (result.faults ≡ 0) × (result.prefix ≡ 0) }
         ensures word { (result.failed.items ≡ []) × (result.storing ≡ false) }
     {
         MemShelf {
             files: Vec::new(alloc),
             fail: Vec::new(alloc),
-            part: 0,
+            prefix: 0,
             calls: 0,
             faults: 0,
             failed: Vec::new(alloc),
@@ -70,7 +72,8 @@ impl MemShelf {
     // Counts a fault, and keeps its word.
     fn note(&mut self, word: Vec<u8>, storing: bool)
         ensures later { self.old.faults ≤ self.new.faults }
-        ensures noted { self.new ≡ record self.old { faults = one_more self.old.faults; failed = word; storing = storing } }
+        ensures noted { self.new
+            ≡ record self.old { faults = one_more self.old.faults; failed = word; storing = storing } }
     {
         self.faults = self.faults.saturating_add(1);
         self.failed = word;
@@ -79,7 +82,7 @@ impl MemShelf {
 }
 
 // The first `count` bytes, or all where there are fewer.
-fn front_of(bytes: &[u8], count: u64) -> &[u8]
+fn prefix_of(bytes: &[u8], count: u64) -> &[u8]
     ensures { result.now ≡ take count bytes.now }
 {
     if count < bytes.len() as u64 {
@@ -98,19 +101,31 @@ impl Shelf for MemShelf {
 
     ghost failed = { λ s. (s.failed.items, s.storing) };
 
+    ghost calls = { λ s. s.calls };
+
     fn load(&mut self, alloc: Global, name: &str, into: &mut Vec<u8>) -> Result<(), LoadFault>
         ensures bytes { OnOk result (held self.old.files.items name.now ≡ Some into.new.items) }
-        ensures short { OnOk result (length into.new.items ≤ 134217728) }
-        ensures long { IsErrOf result LoadFault.TooLong → IsSomeAnd (held self.old.files.items name.now) (λ bytes. 134217728 < length bytes) }
-        ensures cause { LoadCause (is_due self.old.fail.items self.old.calls) (held self.old.files.items name.now) result }
+        ensures short { OnOk result (length into.new.items ≤ FILE_BYTES) }
+        ensures long { IsErrOf result LoadFault.TooLong
+            → IsSomeAnd (held self.old.files.items name.now) (λ bytes. FILE_BYTES < length bytes) }
+        ensures cause { LoadCause (is_due self.old.fail.items self.old.calls)
+            (held self.old.files.items name.now) result }
         ensures refused { OnErr result (into.new.items ≡ []) }
-        ensures same { self.new ≡ record self.old { calls = self.new.calls; faults = self.new.faults; failed = self.new.failed; storing = self.new.storing } }
-        ensures calls { ¬ IsErrOf result LoadFault.Memory → self.new.calls ≡ one_more self.old.calls }
-        ensures uncounted { IsErrOf result LoadFault.Memory → (self.new.calls ≡ self.old.calls) ⊎ (self.new.calls ≡ one_more self.old.calls) }
+        ensures same { self.new ≡ record self.old {
+          calls = self.new.calls;
+          faults = self.new.faults;
+          failed = self.new.failed;
+          storing = self.new.storing;
+        } }
+        ensures calls { self.new.calls ≤ self.old.calls + 1 }
+        ensures counted { ¬ IsErrOf result LoadFault.Memory → self.new.calls ≡ one_more self.old.calls }
+        ensures uncounted { IsErrOf result LoadFault.Memory
+            → (self.new.calls ≡ self.old.calls) ⊎ (self.new.calls ≡ one_more self.old.calls) }
         ensures later { self.old.faults ≤ self.new.faults }
         ensures rose { IsErrOf result LoadFault.Failed → self.new.faults ≡ one_more self.old.faults }
         ensures steady { ¬ IsErrOf result LoadFault.Failed → self.new.faults ≡ self.old.faults }
-        ensures word { LoadWord (self.old.failed.items, self.old.storing) (self.new.failed.items, self.new.storing) name.now result }
+        ensures word { LoadWord (self.old.failed.items, self.old.storing)
+            (self.new.failed.items, self.new.storing) name.now result }
     {
         into.clear();
         let word = Vec::from_slice(alloc, name.as_bytes())?;
@@ -129,22 +144,32 @@ impl Shelf for MemShelf {
 
     fn store(&mut self, alloc: Global, name: &str, bytes: &[u8]) -> Result<(), StoreFault>
         ensures ok { OnOk result (Puts (held self.old.files.items) (held self.new.files.items) name.now bytes.now) }
-        ensures part { IsErrOf result StoreFault.Failed → Puts (held self.old.files.items) (held self.new.files.items) name.now (take self.old.part bytes.now) }
+        ensures prefix { IsErrOf result StoreFault.Failed → Puts (held self.old.files.items)
+            (held self.new.files.items) name.now (take self.old.prefix bytes.now) }
         ensures memory { IsErrOf result StoreFault.Memory → self.new.files.items ≡ self.old.files.items }
         ensures cause { StoreCause (is_due self.old.fail.items self.old.calls) result }
-        ensures same { self.new ≡ record self.old { files = self.new.files; calls = self.new.calls; faults = self.new.faults; failed = self.new.failed; storing = self.new.storing } }
-        ensures calls { ¬ IsErrOf result StoreFault.Memory → self.new.calls ≡ one_more self.old.calls }
-        ensures uncounted { IsErrOf result StoreFault.Memory → (self.new.calls ≡ self.old.calls) ⊎ (self.new.calls ≡ one_more self.old.calls) }
+        ensures same { self.new ≡ record self.old {
+          files = self.new.files;
+          calls = self.new.calls;
+          faults = self.new.faults;
+          failed = self.new.failed;
+          storing = self.new.storing;
+        } }
+        ensures calls { self.new.calls ≤ self.old.calls + 1 }
+        ensures counted { ¬ IsErrOf result StoreFault.Memory → self.new.calls ≡ one_more self.old.calls }
+        ensures uncounted { IsErrOf result StoreFault.Memory
+            → (self.new.calls ≡ self.old.calls) ⊎ (self.new.calls ≡ one_more self.old.calls) }
         ensures later { self.old.faults ≤ self.new.faults }
         ensures rose { IsErrOf result StoreFault.Failed → self.new.faults ≡ one_more self.old.faults }
         ensures steady { ¬ IsErrOf result StoreFault.Failed → self.new.faults ≡ self.old.faults }
-        ensures word { StoreWord (self.old.failed.items, self.old.storing) (self.new.failed.items, self.new.storing) name.now result }
+        ensures word { StoreWord (self.old.failed.items, self.old.storing)
+            (self.new.failed.items, self.new.storing) name.now result }
     {
         let word = Vec::from_slice(alloc, name.as_bytes())?;
         let owner = Name2::of(alloc, name)?;
         let is_due = self.is_next_due();
         let taken = if is_due {
-            front_of(bytes, self.part)
+            prefix_of(bytes, self.prefix)
         } else {
             bytes
         };
@@ -154,21 +179,5 @@ impl Shelf for MemShelf {
             return Err(StoreFault::Failed);
         }
         Ok(())
-    }
-
-    fn mark(&self, name: &str) -> Option<FileMark>
-        ensures { option_map (λ mark. mark.size) result ≡ option_map (λ bytes. length bytes) (held self.now.files.items name.now) }
-    {
-        let bytes = first_of(self.files.as_slice(), name.as_bytes())?;
-        Some(FileMark::in_memory(bytes.len()))
-    }
-
-    fn peek(&self, name: &str, from: usize, into: &mut [u8]) -> Option<usize>
-        ensures count { IfSome result (λ count. count ≤ length into.new) }
-        ensures bytes { IfSome result (λ count. IsSomeAnd (held self.now.files.items name.now) (λ bytes. take count into.new ≡ take (length into.new) (drop from bytes))) }
-        ensures missing { result ≡ None → held self.now.files.items name.now ≡ None }
-    {
-        let bytes = first_of(self.files.as_slice(), name.as_bytes())?;
-        Some(copy_from(bytes.as_slice(), from, into))
     }
 }

@@ -42,13 +42,17 @@ impl Sink for MemSink {
 
     ghost faults = { λ s. s.faults };
 
+    ghost calls = { λ s. s.calls };
+
     fn put(&mut self, _alloc: Global, bytes: &[u8]) -> Result<(), PutFault>
         ensures ok { OnOk result (self.new.bytes.items ≡ self.old.bytes.items ++ bytes.now) }
-        ensures part { IsErrOf result PutFault.Failed → self.new.bytes.items ≡ self.old.bytes.items ++ take (length bytes.now / 2) bytes.now }
+        ensures prefix { IsErrOf result PutFault.Failed
+            → self.new.bytes.items ≡ self.old.bytes.items ++ take (length bytes.now / 2) bytes.now }
         ensures memory { IsErrOf result PutFault.Memory → self.new.bytes.items ≡ self.old.bytes.items }
         ensures cause { PutCause (is_due self.old.fail.items self.old.calls) result }
         ensures sure { self.old.fail.items ≡ [] → ¬ IsErrOf result PutFault.Failed }
-        ensures calls { self.new.calls ≡ one_more self.old.calls }
+        ensures calls { self.new.calls ≤ self.old.calls + 1 }
+        ensures counted { self.new.calls ≡ one_more self.old.calls }
         ensures later { self.old.faults ≤ self.new.faults }
         ensures rose { IsErrOf result PutFault.Failed → self.new.faults ≡ one_more self.old.faults }
         ensures steady { ¬ IsErrOf result PutFault.Failed → self.new.faults ≡ self.old.faults }

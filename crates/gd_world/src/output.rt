@@ -1,5 +1,5 @@
 // The standard output. No clause tells what it receives.
-ghost use Rattle.std.specs.Prelude.{◌≡◌, [], false};
+ghost use Rattle.std.specs.Prelude.{◌≡◌, ◌+◌, [], false};
 
 use crate::streams::write_all;
 use crate::{PutFault, Sink};
@@ -28,6 +28,8 @@ impl<'a, R: Print> Sink for StdSink<'a, R> {
     ghost written = { λ s. [] };
 
     ghost faults = { λ s. s.faults };
+
+    ghost calls = { λ s. 0 };
 
     fn put(&mut self, _alloc: Global, bytes: &[u8]) -> Result<(), PutFault> {
         if !write_all(&mut io::writer(self.rt), bytes) {

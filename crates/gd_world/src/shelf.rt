@@ -1,9 +1,11 @@
 // The trait of what names hold, and why its calls are refused.
-ghost use Rattle.std.specs.Prelude.{◌≡◌, ◌≤◌, ◌<◌, ℕ, [], Bool, true, Some, None, length, OnOk, OnErr, IsSomeAnd, IsErrOf, IfSome, take, drop};
+ghost use Rattle.std.specs.Prelude.{◌≡◌, ◌+◌, ◌≤◌, ◌<◌, ℕ, [], Bool, true, Some, None, length, OnOk, OnErr, IsSomeAnd};
+ghost use Rattle.std.specs.Prelude.{IsErrOf};
+ghost use Rattle.gd_base.specs.Limits.{FILE_BYTES};
 ghost use Rattle.gd_base.specs.Causes.{Rose};
 ghost use Rattle.gd_world.specs.declared.shelf.LoadFault.TheVariants as load_fault;
 ghost use Rattle.gd_world.specs.declared.shelf.StoreFault.TheVariants as store_fault;
-ghost use Rattle.gd_world.specs.Shelf.{Files, SameFiles, Puts, PutsPart, Word, LoadWord, StoreWord};
+ghost use Rattle.gd_world.specs.Shelf.{Files, SameFiles, Puts, PutsPrefix, Word, LoadWord, StoreWord};
 
 use gd_base::Memory;
 use std::alloc::{AllocError, Global};
@@ -30,7 +32,7 @@ impl From<AllocError> for LoadFault {
 /// Why a store was not done.
 #[derive(Clone, Copy, Debug, PartialEq, Eq)]
 pub enum StoreFault {
-    /// Writing failed, and a front of the bytes may stand there. The count of faults has risen.
+    /// Writing failed, and a prefix of the bytes may stand there. The count of faults has risen.
     Failed,
     /// Memory ran out, and nothing was written.
     Memory,
@@ -52,36 +54,11 @@ impl From<Memory> for StoreFault {
     }
 }
 
-/// What the bytes of a name are known by. As long as it is the same, nobody has put others there, as far as a shelf can
-/// tell.
-#[derive(Clone, Copy, Debug, PartialEq, Eq)]
-pub struct FileMark {
-    /// How many bytes there are.
-    pub size: usize,
-    /// The device of a file of the system, and its number there. Both are 0 in memory.
-    pub place: (u64, u64),
-    /// When a file of the system was changed last, in seconds and nanoseconds of its clock. Both are 0 in memory.
-    pub changed: (i64, i64),
-}
-
-impl FileMark {
-    /// The mark of so many bytes in memory, which nobody changes while they are looked at.
-    pub(crate) fn in_memory(size: usize) -> FileMark
-        ensures { result.size ≡ size }
-    {
-        FileMark {
-            size,
-            place: (0, 0),
-            changed: (0, 0),
-        }
-    }
-}
-
 /// Names that hold bytes.
 ///
 /// A shelf keeps a count of its faults and the failed word: the name of the last call that answered
 /// `Failed`, empty before the first, and whether that call was a store.
-pub trait Shelf: Sync {
+pub trait Shelf {
     /// Whether it tells what its names hold. Memory does and the system's files don't.
     ghost tells: { Bool };
 
@@ -94,42 +71,37 @@ pub trait Shelf: Sync {
     /// The name of the last call that answered `Failed`, and whether that was a store.
     ghost failed: { Self → Word };
 
+    /// How many calls were counted. A call counts one at most; memory counts each, and the system's files count none.
+    ghost calls: { Self → ℕ };
+
     /// Reads all that a name holds into `into`, in place of what stood there. `Failed` comes for a
     /// name that isn't there and for a fault, `TooLong` for more than 134,217,728 bytes, `Memory` where
     /// there is no room. After each of them `into` is empty.
     fn load(&mut self, alloc: Global, name: &str, into: &mut Vec<u8>) -> Result<(), LoadFault>
         ensures bytes { tells ≡ true → OnOk result (holds self.old name.now ≡ Some into.new.items) }
-        ensures short { OnOk result (length into.new.items ≤ 134217728) }
-        ensures long { tells ≡ true → IsErrOf result LoadFault.TooLong → IsSomeAnd (holds self.old name.now) (λ bytes. 134217728 < length bytes) }
-        ensures missing { tells ≡ true → holds self.old name.now ≡ None → ¬ IsErrOf result LoadFault.Memory → IsErrOf result LoadFault.Failed }
+        ensures short { OnOk result (length into.new.items ≤ FILE_BYTES) }
+        ensures long { tells ≡ true → IsErrOf result LoadFault.TooLong
+            → IsSomeAnd (holds self.old name.now) (λ bytes. FILE_BYTES < length bytes) }
+        ensures missing { tells ≡ true → holds self.old name.now ≡ None → ¬ IsErrOf result LoadFault.Memory
+            → IsErrOf result LoadFault.Failed }
         ensures refused { OnErr result (into.new.items ≡ []) }
         ensures same { SameFiles (holds self.old) (holds self.new) }
         ensures later { faults self.old ≤ faults self.new }
         ensures rose { IsErrOf result LoadFault.Failed → Rose (faults self.old) (faults self.new) }
         ensures steady { ¬ IsErrOf result LoadFault.Failed → faults self.new ≡ faults self.old }
-        ensures word { LoadWord (failed self.old) (failed self.new) name.now result };
+        ensures word { LoadWord (failed self.old) (failed self.new) name.now result }
+        ensures calls { calls self.new ≤ calls self.old + 1 };
 
     /// Makes a name hold these bytes, in place of what it held. `Failed` comes for a fault: the name
-    /// then holds its old bytes or a front of the new ones. After `Memory` each name holds what it held.
+    /// then holds its old bytes or a prefix of the new ones. After `Memory` each name holds what it held.
     fn store(&mut self, alloc: Global, name: &str, bytes: &[u8]) -> Result<(), StoreFault>
         ensures ok { tells ≡ true → OnOk result (Puts (holds self.old) (holds self.new) name.now bytes.now) }
-        ensures part { tells ≡ true → IsErrOf result StoreFault.Failed → PutsPart (holds self.old) (holds self.new) name.now bytes.now }
+        ensures prefix { tells ≡ true → IsErrOf result StoreFault.Failed
+            → PutsPrefix (holds self.old) (holds self.new) name.now bytes.now }
         ensures memory { IsErrOf result StoreFault.Memory → SameFiles (holds self.old) (holds self.new) }
         ensures later { faults self.old ≤ faults self.new }
         ensures rose { IsErrOf result StoreFault.Failed → Rose (faults self.old) (faults self.new) }
         ensures steady { ¬ IsErrOf result StoreFault.Failed → faults self.new ≡ faults self.old }
-        ensures word { StoreWord (failed self.old) (failed self.new) name.now result };
-
-    /// What the bytes of a name are known by, where a shelf can look at them more than once. `None` for a name that
-    /// isn't there, and for what can be read once only, as a pipe. It is no load: nothing is counted, and nothing
-    /// fails.
-    fn mark(&self, name: &str) -> Option<FileMark>
-        ensures { tells ≡ true → IfSome result (λ mark. IsSomeAnd (holds self.now name.now) (λ bytes. length bytes ≡ mark.size)) };
-
-    /// Looks at what a name holds from a byte on, counted from 0: puts as much of it into the front of `into` as there
-    /// is and as fits, and says how many bytes that is. `None` where a shelf can't: the front of `into` may be anything
-    /// then. It is no load: nothing is counted, and nothing fails.
-    fn peek(&self, name: &str, from: usize, into: &mut [u8]) -> Option<usize>
-        ensures count { IfSome result (λ count. count ≤ length into.new) }
-        ensures bytes { tells ≡ true → IfSome result (λ count. IsSomeAnd (holds self.now name.now) (λ bytes. take count into.new ≡ take (length into.new) (drop from bytes))) };
+        ensures word { StoreWord (failed self.old) (failed self.new) name.now result }
+        ensures calls { calls self.new ≤ calls self.old + 1 };
 }

@@ -1,5 +1,5 @@
 // The trait of where text goes, and why a put is refused.
-ghost use Rattle.std.specs.Prelude.{◌≡◌, ◌≤◌, ◌++◌, ℕ, List, Bool, true, take, OnOk, IsErrOf};
+ghost use Rattle.std.specs.Prelude.{◌≡◌, ◌+◌, ◌≤◌, ◌++◌, ℕ, List, Bool, true, take, OnOk, IsErrOf};
 ghost use Rattle.gd_base.specs.Causes.{Rose};
 ghost use Rattle.gd_world.specs.declared.sink.PutFault.TheVariants as put_fault;
 
@@ -8,7 +8,7 @@ use std::alloc::{AllocError, Global};
 /// Why a put was not done.
 #[derive(Clone, Copy, Debug, PartialEq, Eq)]
 pub enum PutFault {
-    /// Writing failed, and a front of the bytes may have been written. The count of faults has risen.
+    /// Writing failed, and a prefix of the bytes may have been written. The count of faults has risen.
     Failed,
     /// Memory ran out, and nothing was written.
     Memory,
@@ -33,13 +33,18 @@ pub trait Sink {
     /// How often it has failed. The count stops at 2^64 - 1.
     ghost faults: { Self → ℕ };
 
-    /// Appends these bytes. `Failed` comes for a fault: a front of the bytes was then appended. After
+    /// How many puts were counted. A put counts one at most; memory counts each, and the standard output counts none.
+    ghost calls: { Self → ℕ };
+
+    /// Appends these bytes. `Failed` comes for a fault: a prefix of the bytes was then appended. After
     /// `Memory` nothing was.
     fn put(&mut self, alloc: Global, bytes: &[u8]) -> Result<(), PutFault>
         ensures ok { tells ≡ true → OnOk result (written self.new ≡ written self.old ++ bytes.now) }
-        ensures part { tells ≡ true → IsErrOf result PutFault.Failed → (n : ℕ) × (written self.new ≡ written self.old ++ take n bytes.now) }
+        ensures prefix { tells ≡ true → IsErrOf result PutFault.Failed
+            → (n : ℕ) × (written self.new ≡ written self.old ++ take n bytes.now) }
         ensures memory { IsErrOf result PutFault.Memory → written self.new ≡ written self.old }
         ensures later { faults self.old ≤ faults self.new }
         ensures rose { IsErrOf result PutFault.Failed → Rose (faults self.old) (faults self.new) }
-        ensures steady { ¬ IsErrOf result PutFault.Failed → faults self.new ≡ faults self.old };
+        ensures steady { ¬ IsErrOf result PutFault.Failed → faults self.new ≡ faults self.old }
+        ensures calls { calls self.new ≤ calls self.old + 1 };
 }

@@ -1,6 +1,8 @@
-// Whole streams, by reads and writes that may each take a part.
-ghost use Rattle.std.specs.Prelude.{◌≡◌, ◌≤◌, ◌<◌, ◌+◌, ℕ, List, Option, [], length, take, OnOk, IfOk, IfSome, IsErrOf, IsTrue};
+// Whole streams, by reads and writes that may each take less than all.
+ghost use Rattle.std.specs.Prelude.{◌≡◌, ◌≤◌, ◌<◌, ◌+◌, ℕ, List, Option, [], length, take, OnOk, IfOk, IfSome, IsErrOf};
+ghost use Rattle.std.specs.Prelude.{IsTrue};
 ghost use Rattle.std.specs.Io.KnownBytes.{Appends, Consumes, IsAtEnd};
+ghost use Rattle.gd_base.specs.Limits.{FILE_BYTES};
 
 use crate::LoadFault;
 use gd_base::limits::FILE_BYTES;
@@ -16,7 +18,8 @@ const TRIES: u32 = 64;
 // One read, begun anew where a signal interrupts it. None is a fault.
 fn read_some<F: Read>(from: &mut F, piece: &mut [u8]) -> Option<usize>
     ensures bound { IfSome result (λ count. count ≤ length piece.new) }
-    ensures bytes { IfSome result (λ count. Consumes (F.remaining from.old) (F.remaining from.new) (take count piece.new)) }
+    ensures bytes { IfSome result (λ count. Consumes (F.remaining from.old) (F.remaining from.new)
+        (take count piece.new)) }
     ensures end { IfSome result (λ count. count ≡ 0 → 0 < length piece.old → IsAtEnd (F.remaining from.new)) }
 {
     for _ in 0..TRIES {
@@ -44,26 +47,9 @@ fn write_some<F: Write>(to: &mut F, piece: &[u8]) -> Option<usize>
     None
 }
 
-// Reads until `into` is full or nothing is left, and says how many bytes that gave. None is a fault.
-pub(crate) fn fill<F: Read>(from: &mut F, into: &mut [u8]) -> Option<usize>
-    ensures bound { IfSome result (λ count. count ≤ length into.new) }
-    ensures bytes { IfSome result (λ count. Consumes (F.remaining from.old) (F.remaining from.new) (take count into.new)) }
-    ensures end { IfSome result (λ count. count < length into.new → IsAtEnd (F.remaining from.new)) }
-{
-    let mut filled = 0;
-    while filled < into.len() {
-        match read_some(from, &mut into[filled..]) {
-            None => return None,
-            Some(0) => return Some(filled),
-            Some(count) => filled += count,
-        }
-    }
-    Some(filled)
-}
-
 // How many bytes the next read may take, so that at most one is read past the longest file.
 fn room_after(taken: usize, most: usize) -> usize
-    requires taken { taken ≤ 134217728 }
+    requires taken { taken ≤ FILE_BYTES }
     requires most { 0 < most }
     ensures some { 0 < result }
     ensures within { result ≤ most }
@@ -82,7 +68,8 @@ fn append_some<F: Read>(
     requires room { length into.old.items + length piece.old ≤ 134217729 }
     ensures last { length into.new.items ≤ 134217729 }
     ensures count { IfOk result (λ count. length into.new.items ≡ length into.old.items + count) }
-    ensures bytes { (all : Option (List ℕ)) → Consumes all (F.remaining from.old) into.old.items → OnOk result (Consumes all (F.remaining from.new) into.new.items) }
+    ensures bytes { (all : Option (List ℕ)) → Consumes all (F.remaining from.old) into.old.items
+        → OnOk result (Consumes all (F.remaining from.new) into.new.items) }
     ensures end { IfOk result (λ count. count ≡ 0 → IsAtEnd (F.remaining from.new)) }
     ensures reading { ¬ IsErrOf result LoadFault.TooLong }
 {
@@ -97,9 +84,9 @@ fn append_some<F: Read>(
 fn read_pieces<F: Read>(from: &mut F, piece: &mut [u8], into: &mut Vec<u8>) -> Result<(), LoadFault>
     requires piece { 0 < length piece.old }
     requires empty { into.old.items ≡ [] }
-    ensures short { OnOk result (length into.new.items ≤ 134217728) }
+    ensures short { OnOk result (length into.new.items ≤ FILE_BYTES) }
     ensures bytes { OnOk result (IfSome (F.remaining from.old) (λ all. into.new.items ≡ all)) }
-    ensures long { IsErrOf result LoadFault.TooLong → IfSome (F.remaining from.old) (λ all. 134217728 < length all) }
+    ensures long { IsErrOf result LoadFault.TooLong → IfSome (F.remaining from.old) (λ all. FILE_BYTES < length all) }
 {
     while into.len() <= FILE_BYTES {
         let room = room_after(into.len(), piece.len());
@@ -117,22 +104,22 @@ fn new_piece(alloc: Global) -> Result<Vec<u8>, AllocError>
     Vec::from_elem(alloc, 0u8, PIECE)
 }
 
-// Reads to the end, or until one byte more was read than a file may have.
+/// Reads to the end, or until one byte more was read than a file may have.
 pub(crate) fn read_all<F: Read>(
     alloc: Global,
     from: &mut F,
     into: &mut Vec<u8>,
 ) -> Result<(), LoadFault>
     requires { into.old.items ≡ [] }
-    ensures short { OnOk result (length into.new.items ≤ 134217728) }
+    ensures short { OnOk result (length into.new.items ≤ FILE_BYTES) }
     ensures bytes { OnOk result (IfSome (F.remaining from.old) (λ all. into.new.items ≡ all)) }
-    ensures long { IsErrOf result LoadFault.TooLong → IfSome (F.remaining from.old) (λ all. 134217728 < length all) }
+    ensures long { IsErrOf result LoadFault.TooLong → IfSome (F.remaining from.old) (λ all. FILE_BYTES < length all) }
 {
     let mut piece = new_piece(alloc)?;
     read_pieces(from, piece.as_mut_slice(), into)
 }
 
-// Writes all bytes, and says whether that was done. A write that takes nothing is a fault.
+/// Writes all bytes, and says whether that was done. A write that takes nothing is a fault.
 pub(crate) fn write_all<F: Write>(to: &mut F, bytes: &[u8]) -> bool
     ensures { IsTrue result → Appends (F.contents to.old) (F.contents to.new) bytes.now }
 {

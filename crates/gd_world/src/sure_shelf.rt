@@ -1,9 +1,10 @@
 // A shelf in memory of which no call fails.
-ghost use Rattle.std.specs.Prelude.{◌≡◌, ◌≤◌, ◌<◌, ℕ, [], true, false, Some, take, drop, length, option_map, OnOk, OnErr, IsSomeAnd, IsErrOf};
+ghost use Rattle.std.specs.Prelude.{◌≡◌, ◌+◌, ◌≤◌, ◌<◌, ℕ, [], true, false, Some, length, OnOk, OnErr, IsSomeAnd, IsErrOf};
+ghost use Rattle.gd_base.specs.Limits.{FILE_BYTES};
 ghost use Rattle.gd_world.specs.Shelf.{held_or, Puts, SameFiles};
 
-use crate::entries::{copy_from, copy_held, first_of, put_first};
-use crate::{FileMark, LoadFault, Shelf, StoreFault};
+use crate::entries::{copy_held, first_of, put_first};
+use crate::{LoadFault, Shelf, StoreFault};
 use gd_base::Name2;
 use std::alloc::Global;
 
@@ -35,10 +36,15 @@ impl Shelf for SureShelf {
 
     ghost failed = { λ s. ([], false) };
 
+    ghost calls = { λ s. 0 };
+
     fn load(&mut self, _alloc: Global, name: &str, into: &mut Vec<u8>) -> Result<(), LoadFault>
-        ensures bytes { OnOk result (held_or self.old.default.items self.old.files.items name.now ≡ Some into.new.items) }
-        ensures short { OnOk result (length into.new.items ≤ 134217728) }
-        ensures long { IsErrOf result LoadFault.TooLong → IsSomeAnd (held_or self.old.default.items self.old.files.items name.now) (λ bytes. 134217728 < length bytes) }
+        ensures bytes { OnOk result
+            (held_or self.old.default.items self.old.files.items name.now ≡ Some into.new.items) }
+        ensures short { OnOk result (length into.new.items ≤ FILE_BYTES) }
+        ensures long { IsErrOf result LoadFault.TooLong
+            → IsSomeAnd (held_or self.old.default.items self.old.files.items name.now)
+            (λ bytes. FILE_BYTES < length bytes) }
         ensures sure { ¬ IsErrOf result LoadFault.Failed }
         ensures refused { OnErr result (into.new.items ≡ []) }
         ensures same { self.new ≡ self.old }
@@ -51,31 +57,13 @@ impl Shelf for SureShelf {
     }
 
     fn store(&mut self, alloc: Global, name: &str, bytes: &[u8]) -> Result<(), StoreFault>
-        ensures ok { OnOk result (Puts (held_or self.old.default.items self.old.files.items) (held_or self.new.default.items self.new.files.items) name.now bytes.now) }
+        ensures ok { OnOk result (Puts (held_or self.old.default.items self.old.files.items)
+            (held_or self.new.default.items self.new.files.items) name.now bytes.now) }
         ensures sure { ¬ IsErrOf result StoreFault.Failed }
         ensures memory { OnErr result (self.new.files.items ≡ self.old.files.items) }
         ensures default { self.new.default ≡ self.old.default }
     {
         let owner = Name2::of(alloc, name)?;
         Ok(put_first(&mut self.files, owner, Vec::from_slice(alloc, bytes)?)?)
-    }
-
-    fn mark(&self, name: &str) -> Option<FileMark>
-        ensures { option_map (λ mark. mark.size) result ≡ option_map (λ bytes. length bytes) (held_or self.now.default.items self.now.files.items name.now) }
-    {
-        match first_of(self.files.as_slice(), name.as_bytes()) {
-            Some(bytes) => Some(FileMark::in_memory(bytes.len())),
-            None => Some(FileMark::in_memory(self.default.len())),
-        }
-    }
-
-    fn peek(&self, name: &str, from: usize, into: &mut [u8]) -> Option<usize>
-        ensures count { IsSomeAnd result (λ count. count ≤ length into.new) }
-        ensures bytes { IsSomeAnd result (λ count. IsSomeAnd (held_or self.now.default.items self.now.files.items name.now) (λ bytes. take count into.new ≡ take (length into.new) (drop from bytes))) }
-    {
-        match first_of(self.files.as_slice(), name.as_bytes()) {
-            Some(bytes) => Some(copy_from(bytes.as_slice(), from, into)),
-            None => Some(copy_from(self.default.as_slice(), from, into)),
-        }
     }
 }

@@ -1,5 +1,5 @@
 // What no clause says: that calls succeed, what real files do, and faults in mid-stream.
-use crate::streams::{fill, read_all};
+use crate::streams::read_all;
 use crate::{
     FileShelf, LoadFault, MemShelf, MemSink, PutFault, Shelf, Sink, StdSink, StoreFault, SureShelf,
 };
@@ -23,11 +23,11 @@ fn calls_in_memory_fail_in_turn(rt: HostRuntime) -> Result<(), Fail> {
         (3, 3, "fresh", 1, false),
         (4, 3, "fresh", 2, true),
     ];
-    for (due, part, want, faults, storing) in cases {
+    for (due, prefix, want, faults, storing) in cases {
         let mut shelf = MemShelf::new(alloc);
         shelf.add(Name2::of(alloc, "a")?, Vec::from_slice(alloc, b"older")?)?;
         shelf.fail.push(due)?;
-        shelf.part = part;
+        shelf.prefix = prefix;
         let mut into = Vec::new(alloc);
         let load = shelf.load(alloc, "a", &mut into);
         assert_eq!(rt; load.is_err(), due == 1, "load, due {due}");
@@ -44,7 +44,7 @@ fn calls_in_memory_fail_in_turn(rt: HostRuntime) -> Result<(), Fail> {
         assert_eq!(rt;
             into.as_slice(),
             want.as_bytes(),
-            "bytes, due {due} part {part}"
+            "bytes, due {due} prefix {prefix}"
         );
     }
     Ok(())
@@ -66,47 +66,6 @@ fn sure_names_hold_an_entry_or_the_default(rt: HostRuntime) -> Result<(), Fail> 
     for (name, want) in [("a", "first"), ("b", "default"), ("c", "stored")] {
         shelf.load(alloc, name, &mut into)?;
         assert_eq!(rt; into.as_slice(), want.as_bytes(), "{name}");
-    }
-    Ok(())
-}
-
-// How many bytes a name has by its mark.
-fn size_of<S: Shelf>(shelf: &S, name: &str) -> Option<usize> {
-    Some(shelf.mark(name)?.size)
-}
-
-// Whether peeks of three bytes at a name that holds "a text" give what stands there: in the middle, near the end, at
-// the end and past it.
-fn are_peeks_right<S: Shelf>(shelf: &S, name: &str) -> bool {
-    let cases = [
-        (2, 3, b"tex"),
-        (4, 2, b"xt."),
-        (6, 0, b"..."),
-        (7, 0, b"..."),
-    ];
-    for (from, count, want) in cases {
-        let mut into = [b'.'; 3];
-        if shelf.peek(name, from, &mut into) != Some(count) || into != *want {
-            return false;
-        }
-    }
-    true
-}
-
-#[test]
-fn peeks_in_memory(rt: HostRuntime) -> Result<(), Fail> {
-    let alloc = rt.alloc();
-    let mut shelf = MemShelf::new(alloc);
-    shelf.add(Name2::of(alloc, "a")?, Vec::from_slice(alloc, b"a text")?)?;
-    assert!(rt; are_peeks_right(&shelf, "a"));
-    assert_eq!(rt; size_of(&shelf, "a"), Some(6));
-    assert_eq!(rt; size_of(&shelf, "b"), None);
-    assert_eq!(rt; shelf.peek("b", 0, &mut []), None);
-    assert_eq!(rt; shelf.calls, 0);
-    let sure = SureShelf::with(shelf.files, Vec::from_slice(alloc, b"a text")?);
-    for name in ["a", "b"] {
-        assert!(rt; are_peeks_right(&sure, name), "{name}");
-        assert_eq!(rt; size_of(&sure, name), Some(6), "{name}");
     }
     Ok(())
 }
@@ -145,33 +104,6 @@ fn real_files(rt: HostRuntime) -> Result<(), Fail> {
         assert_eq!(rt; store, Err(StoreFault::Failed), "{name}");
     }
     fs::remove_file(&rt, NAME)?;
-    Ok(())
-}
-
-const PEEK_NAME: &str = "gd_world_peek_test_file";
-
-const OLD_NAME: &str = "gd_world_old_test_file";
-
-#[test]
-fn peeks_at_real_files(rt: HostRuntime) -> Result<(), Fail> {
-    let alloc = rt.alloc();
-    let mut shelf = FileShelf::new(&rt, alloc);
-    shelf.store(alloc, PEEK_NAME, b"a text")?;
-    assert_eq!(rt; size_of(&shelf, PEEK_NAME), Some(6));
-    assert!(rt; are_peeks_right(&shelf, PEEK_NAME));
-    for name in ["", ".", "no such file", "a zero \0 byte"] {
-        let mut into = [0u8; 3];
-        assert_eq!(rt; size_of(&shelf, name), None, "{name}");
-        assert_eq!(rt; shelf.peek(name, 0, &mut into), None, "{name}");
-    }
-    assert_eq!(rt; size_of(&shelf, "/dev/null"), None);
-    let mark = shelf.mark(PEEK_NAME);
-    assert_eq!(rt; shelf.mark(PEEK_NAME), mark);
-    fs::rename(&rt, PEEK_NAME, OLD_NAME)?;
-    shelf.store(alloc, PEEK_NAME, b"a text")?;
-    assert!(rt; shelf.mark(PEEK_NAME) != mark);
-    fs::remove_file(&rt, OLD_NAME)?;
-    fs::remove_file(&rt, PEEK_NAME)?;
     Ok(())
 }
 
@@ -239,28 +171,6 @@ fn a_read_fails_in_mid_stream(rt: HostRuntime) -> Result<(), Fail> {
             "fault {fault}"
         );
         assert_eq!(rt; into.len(), length, "fault {fault}");
-    }
-    Ok(())
-}
-
-#[test]
-fn a_peek_fails_in_mid_stream(rt: HostRuntime) -> Result<(), Fail> {
-    let cases = [
-        (0, 2, Some(2)),
-        (0, 5, Some(3)),
-        (5, 2, Some(2)),
-        (5, 3, None),
-        (7, 5, None),
-    ];
-    for (fault, room, want) in cases {
-        let mut into = [0u8; 5];
-        let mut slow = Slow {
-            reads: 0,
-            fault,
-            left: 3,
-        };
-        let count = fill(&mut slow, &mut into[..room]);
-        assert_eq!(rt; count, want, "fault {fault} room {room}");
     }
     Ok(())
 }

@@ -1,110 +1,39 @@
-use Rattle.std.proofs.Common.{arith, ◌≡◌, ◌≤◌, ap, map, List, ℕ}
+use Rattle.std.proofs.Common.{arith, ◌≡◌, ◌≤◌, ◌∙◌, ap, map, subst, sym, true, List, ℕ}
 use Rattle.std.specs.String.{string_bytes}
-use Rattle.gd_run.proofs.Claimed.{ends_in_invalid, ends_in_reject, ends_in_valid, ends_in_zero}
-use Rattle.gd_run.proofs.Moved.{ends_in_fault, ends_in_want, ends_with_answer, kept_files, kept_word}
-use Rattle.gd_run.specs.Answers.{IsAnswer}
-use Rattle.gd_run.specs.Endings.{EndsWithAnswer}
-use Rattle.gd_run.specs.Lines.{answer_in}
-use Rattle.gd_run.specs.Reports.{IsUnreadIn, OnReport}
-use Rattle.gd_world.specs.Shelf.{Files, SameFiles}
+use Rattle.gd_report.specs.Said.{status_of}
+use Rattle.gd_run.proofs.Claimed.{means}
+use Rattle.gd_run.proofs.Laws.{answer_told, answered, four_is_wrong, in_range, same_files, wrong_is_four}
+use Rattle.gd_run.proofs.Stored.{leaves_valid, stores_valid}
+use Rattle.gd_run.specs.Endings.{Course, Ends}
 use Rattle.gd_run.proofs.program.run.Goals as goal
 
 pub returns-clause-answer : goal.returns-clause-answer
-returns-clause-answer g c = λ s o loaded stored put.
-    let words : List (List ℕ) = map string_bytes c.args.words.now.items in
-    let old : Files = g.S.Shelf.holds c.args.shelf.now in
-    let mid : Files = g.S.Shelf.holds c.answer_to-answer.new.shelf in
-    let new : Files = g.S.Shelf.holds c.end.new.shelf in
-    let before : List ℕ = g.O.Sink.written c.args.out.now in
-    let now : List ℕ = g.O.Sink.written c.end.new.out in
-    let answered : OnReport (λ r. IsAnswer words old (answer_in r)) (λ w. IsUnreadIn words old w) c.answer_to-answer.result = rw c.as_slice.ensures.value at (c.answer_to-answer.ensures.answer s) in
-    ends_with_answer words old mid new before now c.end.result.0 c.answer_to-answer.result (λ w. IsUnreadIn words old w) c.answer_to-answer.ensures.same answered
-    (c.end.ensures.status loaded stored put) (c.end.ensures.written o loaded stored put) (c.end.ensures.stored s loaded stored put)
+returns-clause-answer g c = λ shelf sink five six seven.
+    let e = answered _ (status_of c.run_once.result) (rw c.as_slice.ensures.value at c.run_once.ensures.ends) (λ h. five (c.status.ensures ∙ h)) (λ h. six (c.status.ensures ∙ h)) (λ h. seven (c.status.ensures ∙ h)) in
+    rw c.status.ensures (answer_told _ (status_of c.run_once.result) shelf sink e)
 
 pub returns-clause-zero : goal.returns-clause-zero
-returns-clause-zero g c = λ s o zero.
-    let words : List (List ℕ) = map string_bytes c.args.words.now.items in
-    let old : Files = g.S.Shelf.holds c.args.shelf.now in
-    let mid : Files = g.S.Shelf.holds c.answer_to-answer.new.shelf in
-    let new : Files = g.S.Shelf.holds c.end.new.shelf in
-    let before : List ℕ = g.O.Sink.written c.args.out.now in
-    let now : List ℕ = g.O.Sink.written c.end.new.out in
-    let answered : OnReport (λ r. IsAnswer words old (answer_in r)) (λ w. IsUnreadIn words old w) c.answer_to-answer.result = rw c.as_slice.ensures.value at (c.answer_to-answer.ensures.answer s) in
-    let ends : EndsWithAnswer words old new before now c.end.result.0 =
-    ends_with_answer words old mid new before now c.end.result.0 c.answer_to-answer.result (λ w. IsUnreadIn words old w) c.answer_to-answer.ensures.same answered
-    (c.end.ensures.status (λ e. absurd (omega arith)) (λ e. absurd (omega arith)) (λ e. absurd (omega arith)))
-    (c.end.ensures.written o (λ e. absurd (omega arith)) (λ e. absurd (omega arith)) (λ e. absurd (omega arith)))
-    (c.end.ensures.stored s (λ e. absurd (omega arith)) (λ e. absurd (omega arith)) (λ e. absurd (omega arith))) in
-    ends_in_zero words old new before now c.end.result.0 zero ends
+returns-clause-zero g c = λ shelf sink is.
+    let code : status_of c.run_once.result ≡ 0 = sym c.status.ensures ∙ is in
+    let e = answered _ (status_of c.run_once.result) (rw c.as_slice.ensures.value at c.run_once.ensures.ends) (λ h. omega (arith, h, code)) (λ h. omega (arith, h, code)) (λ h. omega (arith, h, code)) in
+    record { printed = e.answer.said.text; so = (means _ _ e.answer (e.has.is shelf)).zero (sym e.status ∙ code); written = e.written sink }
 
 pub returns-clause-reject : goal.returns-clause-reject
-returns-clause-reject g c = λ s o one.
-    let words : List (List ℕ) = map string_bytes c.args.words.now.items in
-    let old : Files = g.S.Shelf.holds c.args.shelf.now in
-    let mid : Files = g.S.Shelf.holds c.answer_to-answer.new.shelf in
-    let new : Files = g.S.Shelf.holds c.end.new.shelf in
-    let before : List ℕ = g.O.Sink.written c.args.out.now in
-    let now : List ℕ = g.O.Sink.written c.end.new.out in
-    let answered : OnReport (λ r. IsAnswer words old (answer_in r)) (λ w. IsUnreadIn words old w) c.answer_to-answer.result = rw c.as_slice.ensures.value at (c.answer_to-answer.ensures.answer s) in
-    let ends : EndsWithAnswer words old new before now c.end.result.0 =
-    ends_with_answer words old mid new before now c.end.result.0 c.answer_to-answer.result (λ w. IsUnreadIn words old w) c.answer_to-answer.ensures.same answered
-    (c.end.ensures.status (λ e. absurd (omega arith)) (λ e. absurd (omega arith)) (λ e. absurd (omega arith)))
-    (c.end.ensures.written o (λ e. absurd (omega arith)) (λ e. absurd (omega arith)) (λ e. absurd (omega arith)))
-    (c.end.ensures.stored s (λ e. absurd (omega arith)) (λ e. absurd (omega arith)) (λ e. absurd (omega arith))) in
-    ends_in_reject words old new before now c.end.result.0 one ends
+returns-clause-reject g c = λ shelf sink is.
+    let code : status_of c.run_once.result ≡ 1 = sym c.status.ensures ∙ is in
+    let e = answered _ (status_of c.run_once.result) (rw c.as_slice.ensures.value at c.run_once.ensures.ends) (λ h. omega (arith, h, code)) (λ h. omega (arith, h, code)) (λ h. omega (arith, h, code)) in
+    record { printed = e.answer.said.text; so = (means _ _ e.answer (e.has.is shelf)).one (sym e.status ∙ code); written = e.written sink }
 
 pub returns-clause-invalid : goal.returns-clause-invalid
-returns-clause-invalid g c = λ s o eight.
-    let words : List (List ℕ) = map string_bytes c.args.words.now.items in
-    let old : Files = g.S.Shelf.holds c.args.shelf.now in
-    let mid : Files = g.S.Shelf.holds c.answer_to-answer.new.shelf in
-    let new : Files = g.S.Shelf.holds c.end.new.shelf in
-    let before : List ℕ = g.O.Sink.written c.args.out.now in
-    let now : List ℕ = g.O.Sink.written c.end.new.out in
-    let answered : OnReport (λ r. IsAnswer words old (answer_in r)) (λ w. IsUnreadIn words old w) c.answer_to-answer.result = rw c.as_slice.ensures.value at (c.answer_to-answer.ensures.answer s) in
-    let ends : EndsWithAnswer words old new before now c.end.result.0 =
-    ends_with_answer words old mid new before now c.end.result.0 c.answer_to-answer.result (λ w. IsUnreadIn words old w) c.answer_to-answer.ensures.same answered
-    (c.end.ensures.status (λ e. absurd (omega arith)) (λ e. absurd (omega arith)) (λ e. absurd (omega arith)))
-    (c.end.ensures.written o (λ e. absurd (omega arith)) (λ e. absurd (omega arith)) (λ e. absurd (omega arith)))
-    (c.end.ensures.stored s (λ e. absurd (omega arith)) (λ e. absurd (omega arith)) (λ e. absurd (omega arith))) in
-    ends_in_invalid words old new before now c.end.result.0 eight ends
+returns-clause-invalid g c = λ shelf sink is.
+    let code : status_of c.run_once.result ≡ 8 = sym c.status.ensures ∙ is in
+    let e = answered _ (status_of c.run_once.result) (rw c.as_slice.ensures.value at c.run_once.ensures.ends) (λ h. omega (arith, h, code)) (λ h. omega (arith, h, code)) (λ h. omega (arith, h, code)) in
+    record { printed = e.answer.said.text; so = (means _ _ e.answer (e.has.is shelf)).eight (sym e.status ∙ code); written = e.written sink }
 
 pub returns-clause-stored : goal.returns-clause-stored
-returns-clause-stored g c = λ s o low.
-    let words : List (List ℕ) = map string_bytes c.args.words.now.items in
-    let old : Files = g.S.Shelf.holds c.args.shelf.now in
-    let mid : Files = g.S.Shelf.holds c.answer_to-answer.new.shelf in
-    let new : Files = g.S.Shelf.holds c.end.new.shelf in
-    let before : List ℕ = g.O.Sink.written c.args.out.now in
-    let now : List ℕ = g.O.Sink.written c.end.new.out in
-    let answered : OnReport (λ r. IsAnswer words old (answer_in r)) (λ w. IsUnreadIn words old w) c.answer_to-answer.result = rw c.as_slice.ensures.value at (c.answer_to-answer.ensures.answer s) in
-    let ends : EndsWithAnswer words old new before now c.end.result.0 =
-    ends_with_answer words old mid new before now c.end.result.0 c.answer_to-answer.result (λ w. IsUnreadIn words old w) c.answer_to-answer.ensures.same answered
-    (c.end.ensures.status (λ e. absurd (omega arith)) (λ e. absurd (omega arith)) (λ e. absurd (omega arith)))
-    (c.end.ensures.written o (λ e. absurd (omega arith)) (λ e. absurd (omega arith)) (λ e. absurd (omega arith)))
-    (c.end.ensures.stored s (λ e. absurd (omega arith)) (λ e. absurd (omega arith)) (λ e. absurd (omega arith))) in
-    ends_in_valid words old new before now c.end.result.0 low ends
+returns-clause-stored g c = λ shelf low.
+    let e = answered _ (status_of c.run_once.result) (rw c.as_slice.ensures.value at c.run_once.ensures.ends) (λ h. omega (arith, h, low, c.status.ensures)) (λ h. omega (arith, h, low, c.status.ensures)) (λ h. omega (arith, h, low, c.status.ensures)) in
+    stores_valid _ (status_of c.run_once.result) shelf (omega (arith, low, c.status.ensures)) e
 
-pub returns-clause-fault : goal.returns-clause-fault
-returns-clause-fault g c = λ s o six.
-    let words : List (List ℕ) = map string_bytes c.args.words.now.items in
-    let old : Files = g.S.Shelf.holds c.args.shelf.now in
-    let mid : Files = g.S.Shelf.holds c.answer_to-answer.new.shelf in
-    let new : Files = g.S.Shelf.holds c.end.new.shelf in
-    let before : List ℕ = g.O.Sink.written c.args.out.now in
-    let now : List ℕ = g.O.Sink.written c.end.new.out in
-    let answered : OnReport (λ r. IsAnswer words old (answer_in r)) (λ w. IsUnreadIn words old w) c.answer_to-answer.result = rw c.as_slice.ensures.value at (c.answer_to-answer.ensures.answer s) in
-    ends_in_fault words old mid new (g.S.Shelf.failed c.end.new.shelf) before now c.answer_to-answer.result c.answer_to-answer.ensures.same answered
-    (kept_word c.answer_to-answer.result _ (g.S.Shelf.failed c.answer_to-answer.new.shelf) (g.S.Shelf.failed c.end.new.shelf) (λ u. ap g.S.Shelf.failed (c.end.ensures.untouched u)) c.answer_to-answer.ensures.unread)
-    (kept_files c.answer_to-answer.result mid new (λ u. ap g.S.Shelf.holds (c.end.ensures.untouched u))) (c.end.ensures.fault s o six)
-
-pub returns-clause-want : goal.returns-clause-want
-returns-clause-want g c = λ s seven.
-    let words : List (List ℕ) = map string_bytes c.args.words.now.items in
-    let old : Files = g.S.Shelf.holds c.args.shelf.now in
-    let mid : Files = g.S.Shelf.holds c.answer_to-answer.new.shelf in
-    let new : Files = g.S.Shelf.holds c.end.new.shelf in
-    let before : List ℕ = g.O.Sink.written c.args.out.now in
-    let now : List ℕ = g.O.Sink.written c.end.new.out in
-    let answered : OnReport (λ r. IsAnswer words old (answer_in r)) (λ w. IsUnreadIn words old w) c.answer_to-answer.result = rw c.as_slice.ensures.value at (c.answer_to-answer.ensures.answer s) in
-    ends_in_want words old mid new c.answer_to-answer.result (λ w. IsUnreadIn words old w) c.answer_to-answer.ensures.same answered (c.end.ensures.want s seven)
+pub returns-clause-left : goal.returns-clause-left
+returns-clause-left g c = λ shelf. leaves_valid _ (status_of c.run_once.result) shelf (rw c.as_slice.ensures.value at c.run_once.ensures.ends)

@@ -1,6 +1,6 @@
 use Rattle.std.proofs.Common.{◌<◌, length, rules}
 use Rattle.gd_points.proofs.Used.{name_at}
-use Rattle.gd_points.proofs.Whole.{labels_below}
+use Rattle.gd_points.proofs.Beside.{labels_below}
 use Rattle.gd_points.proofs.table.PointTable.last_named.Goals as goal
 
 pub name-known-requires : goal.name-known-requires

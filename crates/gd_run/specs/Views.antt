@@ -1,0 +1,41 @@
+-- What the program's values stand for.
+use Rattle.std.specs.Prelude.{List, [], ◌∷◌, Option, Some, None, map, option_map}
+use Rattle.gd_cert.specs.Certificates.{certificate_of}
+use Rattle.gd_report.specs.Said.{said_in}
+use Rattle.gd_run.specs.Answers.{Answer, Store}
+use Rattle.gd_run.specs.Asks.{Ask, ForCheck, ForFlat}
+use Rattle.gd_run.specs.CheckCommand.{Check}
+use Rattle.gd_run.specs.FlatCommand.{Flat}
+use Rattle.gd_run.specs.Inputs.{Given}
+use Rattle.gd_run.specs.Inputs as meant
+use Rattle.gd_run.specs.declared.checkflat.CheckCommand.{CheckCommand}
+use Rattle.gd_run.specs.declared.command.Command.{Command}
+use Rattle.gd_run.specs.declared.command.Command.TheVariants as command
+use Rattle.gd_run.specs.declared.flat.FlatCommand.{FlatCommand}
+use Rattle.gd_run.specs.declared.inputs.Input.{Input}
+use Rattle.gd_run.specs.declared.inputs.Inputs.{Inputs}
+use Rattle.gd_run.specs.declared.report.NamedFile.{NamedFile}
+use Rattle.gd_run.specs.declared.report.Report.{Report}
+
+abbrev pub flat_of : FlatCommand → Flat
+flat_of c = record { points = c.points.now; tolerance = c.tolerance; budget = c.budget; certificate = option_map (λ w. w.now) c.certificate }
+
+abbrev pub check_of : CheckCommand → Check
+check_of c = record { points = c.points.now; tolerance = c.tolerance; certificate = c.certificate.now }
+
+abbrev pub ask_of : Command → Ask
+ask_of (command.Flat c) = ForFlat (flat_of c)
+ask_of (command.Check c) = ForCheck (check_of c)
+
+abbrev pub input_of : Input → meant.Input
+input_of i = record { kind = i.kind; word = i.word.now }
+
+abbrev pub given_of : Inputs → Given
+given_of i = record { table = i.table; certificate = option_map certificate_of i.certificate }
+
+abbrev pub stores_in : Option NamedFile → List Store
+stores_in None = []
+stores_in (Some file) = (file.name.now, file.bytes.items) ∷ []
+
+abbrev pub answer_in : Report → Answer
+answer_in report = record { stores = stores_in report.file; said = said_in report.line }
