@@ -7,6 +7,7 @@ use Rattle.std.specs.List.{All, list_all}
 use Rattle.std.proofs.lemmas.Bool.Decides.{nat_tests}
 use Rattle.std.proofs.lemmas.List.{length-map}
 use Rattle.std.proofs.lemmas.List.Elements.{All-cons, All-nil, All-tail}
+use Rattle.gd_base.specs.Limits.{BUDGET, GROUPS}
 use Rattle.gd_cells.specs.Grid.{MOST_DIMS}
 use Rattle.gd_base.specs.declared.verdict.Counts.{Counts}
 use Rattle.gd_base.specs.declared.verdict.Reason.{Reason}
@@ -102,10 +103,10 @@ sized_found name limit (a ∷ b ∷ []) n is =
     (rw (same a name x, numeral) refl, lt)
 sized_found name limit (a ∷ b ∷ c ∷ more) n is = cc is
 
-pub share_found : (words : List (List ℕ)) (n : ℕ) → share_in words ≡ Ok n → (words ≡ codes "share" ∷ decimal n ∷ []) × (n ≤ 1000000)
+pub share_found : (words : List (List ℕ)) (n : ℕ) → share_in words ≡ Ok n → (words ≡ codes "share" ∷ decimal n ∷ []) × (n ≤ BUDGET)
 share_found words n is = let (w, lt) = sized_found (codes "share") 1000001 words n is in (w, omega (arith, lt))
 
-pub share_again : (n : ℕ) → n ≤ 1000000 → share_in (codes "share" ∷ decimal n ∷ []) ≡ Ok n
+pub share_again : (n : ℕ) → n ≤ BUDGET → share_in (codes "share" ∷ decimal n ∷ []) ≡ Ok n
 share_again n few = rw (below_again 1000001 n (omega arith) (omega arith)) refl
 
 some_told : (told n : ℕ) → cond (told == 0) (Err rule.Head) (Ok told) ≡ Ok n → (told ≡ n) × (1 ≤ n)
@@ -114,14 +115,14 @@ some_told told n h = elim (chosen (told == 0) _ _ _ h) [
   | inr w ↦ let is : told ≡ n = ok_same told n w.1 in (is, grind (arith, nat_tests, w.0, is))
 ]
 
-pub told_found : (words : List (List ℕ)) (n : ℕ) → told_in words ≡ Ok n → (words ≡ codes "groups" ∷ decimal n ∷ []) × (1 ≤ n) × (n ≤ 300000)
+pub told_found : (words : List (List ℕ)) (n : ℕ) → told_in words ≡ Ok n → (words ≡ codes "groups" ∷ decimal n ∷ []) × (1 ≤ n) × (n ≤ GROUPS)
 told_found words n is =
     let (told, sized, more) = bind_ok _ _ n is in
     let (w, lt) = sized_found (codes "groups") 300001 words told sized in
     let (eq, some) = some_told told n more in
     (subst (λ m. words ≡ codes "groups" ∷ decimal m ∷ []) eq w, some, omega (arith, lt, eq))
 
-pub told_again : (n : ℕ) → 1 ≤ n → n ≤ 300000 → told_in (codes "groups" ∷ decimal n ∷ []) ≡ Ok n
+pub told_again : (n : ℕ) → 1 ≤ n → n ≤ GROUPS → told_in (codes "groups" ∷ decimal n ∷ []) ≡ Ok n
 told_again n some few =
     let other : (n == 0) ≡ false = grind (arith, nat_tests) in
     rw (below_again 300001 n (omega arith) (omega arith), other) refl

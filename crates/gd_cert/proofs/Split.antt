@@ -10,6 +10,7 @@ use Rattle.std.proofs.lemmas.List.Elements.{All-append, All-cons, All-from_get_o
 use Rattle.std.proofs.lemmas.List.Splits.{slice_split_at, slice_split_none}
 use Rattle.std.proofs.lemmas.List.Sums.{AllPass-from_list_all, list_all-from_AllPass}
 use Rattle.std.proofs.lemmas.Str.Parse.{not_in_digits}
+use Rattle.gd_base.specs.Limits.{BUDGET, GROUPS}
 use Rattle.gd_base.specs.declared.verdict.Counts.{Counts}
 use Rattle.gd_base.specs.declared.verdict.Reason.{Reason}
 use Rattle.gd_base.specs.declared.verdict.Reason.TheVariants as reason
@@ -100,10 +101,10 @@ pub heading_line : (h : Heading) → HeadingFits h → IsLine (heading_words h)
 heading_line Plain fits = (omega arith, (refl, tt))
 heading_line (Probe name t) fits = (omega arith, (refl, (requirement_clean name fits.0.bytes, (decimal_clean t (omega (arith, fits.1)), tt))))
 
-pub share_line : (n : ℕ) → n ≤ 1000000 → IsLine (codes "share" ∷ decimal n ∷ [])
+pub share_line : (n : ℕ) → n ≤ BUDGET → IsLine (codes "share" ∷ decimal n ∷ [])
 share_line n few = (omega arith, (refl, (decimal_clean n (omega arith), tt)))
 
-pub told_line : (n : ℕ) → n ≤ 300000 → IsLine (codes "groups" ∷ decimal n ∷ [])
+pub told_line : (n : ℕ) → n ≤ GROUPS → IsLine (codes "groups" ∷ decimal n ∷ [])
 told_line n few = (omega arith, (refl, (decimal_clean n (omega arith), tt)))
 
 pub end_line : IsLine (codes "end" ∷ [])

@@ -2,8 +2,8 @@
 use Rattle.std.proofs.Common.{◌≡◌, ℕ, ◌+◌, ◌<◌, ◌==◌, List, [], ◌∷◌, length, arith, sym, ◌∙◌, ap}
 use Rattle.std.specs.Prelude.{Result, Ok, Err}
 use Rattle.std.proofs.lemmas.List.Splits.{length-slice_split}
-use Rattle.gd_cert.specs.Drafts.{TakesLine}
-use Rattle.gd_cert.specs.Reading.{Draft, Fails, drafted_from, on_line, with_line}
+use Rattle.gd_base.specs.Causes.{Gives, IsCause}
+use Rattle.gd_cert.specs.Reading.{Draft, cert_cause, drafted_from, on_line, with_line}
 use Rattle.gd_cert.specs.Words.{and_then_read, pieces, words_of}
 use Rattle.gd_cert.specs.declared.fault.CertFault.{CertFault}
 use Rattle.gd_cert.specs.declared.fault.CertReadFault.{CertReadFault}
@@ -29,11 +29,11 @@ fault_on line d f piece (next ∷ rest) some h = ap (λ r. and_then_read r (λ u
 
 -- a line that is not taken is the fault of the file
 pub failed : (line : ℕ) (d new : Draft) (fault : CertReadFault) (piece more rest : List ℕ) → pieces 10 rest ≡ piece ∷ pieces 10 more
-    → TakesLine {T = Unit {0}} new (Err fault) (on_line line (with_line line (words_of piece) d)) → Fails fault (drafted_from line d (pieces 10 rest))
+    → Gives {X = Unit {0}} cert_cause (λ x. new) (Err fault) (on_line line (with_line line (words_of piece) d)) → IsCause (cert_cause fault) (drafted_from line d (pieces 10 rest))
 failed line d new read_fault.Memory piece more rest cut h = tt
 failed line d new (read_fault.Cert f) piece more rest cut h = ap (drafted_from line d) cut ∙ fault_on line d f piece (pieces 10 more) (some_pieces more) h
 
 -- a fault stays
-pub fails_on : {A B : Type 0} (fault : CertReadFault) (r : Result A CertFault) (next : A → Result B CertFault) → Fails fault r → Fails fault (and_then_read r next)
+pub fails_on : {A B : Type 0} (fault : CertReadFault) (r : Result A CertFault) (next : A → Result B CertFault) → IsCause (cert_cause fault) r → IsCause (cert_cause fault) (and_then_read r next)
 fails_on read_fault.Memory r next h = tt
 fails_on (read_fault.Cert f) r next h = ap (λ x. and_then_read x next) h

@@ -1,6 +1,7 @@
 -- The ranges of a certificate's numbers, counts and name.
 use Rattle.std.specs.Prelude.{ℕ, ℤ, ◌^◌, ◌≡◌, ◌≤◌, ◌<◌, Bool, true, ◌==◌, ◌||◌, List, length, unsigned_abs}
 use Rattle.std.specs.List.{All, list_all}
+use Rattle.gd_base.specs.Limits.{BUDGET, GROUPS, TOLERANCE}
 use Rattle.gd_cells.specs.Grid.{MOST_DIMS}
 use Rattle.gd_base.specs.declared.verdict.Counts.{Counts}
 use Rattle.gd_base.specs.Names.{is_name_byte}
@@ -21,7 +22,7 @@ pub record IsRequirement (name : List ℕ) : Type 0 where
 
 abbrev pub HeadingFits : Heading → Type 0
 HeadingFits Plain = Unit {0}
-HeadingFits (Probe name tolerance) = IsRequirement name × (tolerance ≤ 16000000)
+HeadingFits (Probe name tolerance) = IsRequirement name × (tolerance ≤ TOLERANCE)
 
 -- the numbers of a line's evidence are below 2^32
 abbrev pub NodeFits : Node → Type 0
@@ -56,8 +57,8 @@ BodyFits (Open counts tree) = CountsFit counts × All NodeFits tree
 
 pub record IsInBounds (c : Certificate) : Type 0 where
   pub heading : HeadingFits c.heading
-  pub share : c.share ≤ 1000000
+  pub share : c.share ≤ BUDGET
   pub some_told : 1 ≤ c.told
-  pub few_told : c.told ≤ 300000
+  pub few_told : c.told ≤ GROUPS
   pub count : length c.groups < 2 ^ 32
   pub groups : All BodyFits c.groups

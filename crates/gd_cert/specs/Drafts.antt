@@ -40,20 +40,7 @@ draft_of d = record {
   tree = d.tree.items;
 }
 
--- what a reader of a line answered, against the grammar: want of memory is free
-abbrev pub Answers : {X Y : Type 0} → (X → Y) → Result X LineFault → Result Y Rule → Type 0
-Answers view (Ok x) meant = meant ≡ Ok (view x)
-Answers view (Err line_fault.Memory) meant = Unit {0}
-Answers view (Err (line_fault.Rule broken)) meant = meant ≡ Err broken
-
--- the draft is what is meant, unless a rule is broken or memory ran out
-abbrev pub Takes : {T : Type 0} → Draft → Result T LineFault → Result Draft Rule → Type 0
-Takes new (Ok x) meant = meant ≡ Ok new
-Takes new (Err line_fault.Memory) meant = Unit {0}
-Takes new (Err (line_fault.Rule broken)) meant = meant ≡ Err broken
-
--- the same of a line in its place
-abbrev pub TakesLine : {T : Type 0} → Draft → Result T CertReadFault → Result Draft CertFault → Type 0
-TakesLine new (Ok x) meant = meant ≡ Ok new
-TakesLine new (Err read_fault.Memory) meant = Unit {0}
-TakesLine new (Err (read_fault.Cert f)) meant = meant ≡ Err f
+-- the rule that a line broke, where it isn't want of memory
+abbrev pub line_cause : LineFault → Option Rule
+line_cause (line_fault.Rule broken) = Some broken
+line_cause line_fault.Memory = None

@@ -17,14 +17,10 @@ use Rattle.gd_cert.specs.declared.stage.Stage.TheVariants as stage
 abbrev pub fault : ℕ → ℕ → CertFault
 fault line code = record { line = line; code = code }
 
--- what a reader answered, against what reading gives: want of memory is free
-abbrev pub Fails : {Y : Type 0} → CertReadFault → Result Y CertFault → Type 0
-Fails read_fault.Memory read = Unit {0}
-Fails (read_fault.Cert f) read = read ≡ Err f
-
-abbrev pub Gives : {X Y : Type 0} → (X → Y) → Result X CertReadFault → Result Y CertFault → Type 0
-Gives view (Ok x) read = read ≡ Ok (view x)
-Gives view (Err e) read = Fails e read
+-- the cause of a certificate that wasn't read: its first fault, where it isn't want of memory
+abbrev pub cert_cause : CertReadFault → Option CertFault
+cert_cause (read_fault.Cert f) = Some f
+cert_cause read_fault.Memory = None
 
 -- a group and the line on which its text begins
 pub record Placed : Type 0 where

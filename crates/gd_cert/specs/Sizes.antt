@@ -1,6 +1,7 @@
 -- How long a text is, and how many lines it has.
 use Rattle.std.specs.Prelude.{ℕ, ◌+◌, ◌*◌, ◌≡◌, ◌≤◌, Some, List, [], ◌∷◌, length, slice_get}
 use Rattle.std.specs.List.{All, sum_by}
+use Rattle.gd_base.specs.Limits.{FILE_BYTES}
 use Rattle.gd_cells.specs.declared.node.Node.{Node}
 use Rattle.gd_cert.specs.Bounds.{IsInBounds}
 use Rattle.gd_cert.specs.Certificates.{Body, Accept, Reject, Open, Certificate, body_of, certificate_of}
@@ -40,4 +41,4 @@ KeptLinesLieWithin = (c : Cert) → KeepsLines c → All (λ (group : CertGroup)
 
 -- the text of a certificate of one group, whose tree has at most 2,000,004 lines, has at most the 134,217,728 bytes that a file may have
 abbrev pub OneGroupIsShort : Type 0
-OneGroupIsShort = (c : Certificate) (body : Body) → IsInBounds c → c.groups ≡ body ∷ [] → length (tree_of body) ≤ 2000004 → length (text c) ≤ 134217728
+OneGroupIsShort = (c : Certificate) (body : Body) → IsInBounds c → c.groups ≡ body ∷ [] → length (tree_of body) ≤ 2000004 → length (text c) ≤ FILE_BYTES

@@ -3,13 +3,9 @@ use Rattle.std.specs.Prelude.{ℕ, zero, suc, ℤ, pos, negsuc, Bool, List, [], 
 use Rattle.std.specs.Cmp.Lexicographic.{pointwise}
 use Rattle.std.specs.List.{list_all, slice_split}
 use Rattle.std.specs.Str.Parse.{digits_value}
+pub use Rattle.gd_base.specs.Causes.{and_then_read}
 use Rattle.gd_cert.specs.Bounds.{is_requirement_byte}
 use Rattle.gd_cert.specs.declared.rule.Rule.{Rule}
-
--- what was read goes on, and a broken rule stays
-abbrev pub and_then_read : {A B E : Type 0} → Result A E → (A → Result B E) → Result B E
-and_then_read (Ok x) next = next x
-and_then_read (Err e) next = Err e
 
 -- what an option has, or else a broken rule
 abbrev pub or_rule : {A : Type 0} → Option A → Rule → Result A Rule

@@ -1,7 +1,8 @@
 // A certificate as far as its lines were read.
 ghost use Rattle.std.specs.Prelude.{◌≡◌, OnOk, false, true, map};
+ghost use Rattle.gd_base.specs.Causes.{Gives};
 ghost use Rattle.gd_cert.specs.Certificates.{Reject, body_of, certificate_of, Open};
-ghost use Rattle.gd_cert.specs.Drafts.{Takes, draft_of, texts};
+ghost use Rattle.gd_cert.specs.Drafts.{draft_of, line_cause, texts};
 ghost use Rattle.gd_cert.specs.Reading.{certificate_in, empty_draft, last_fault, lines_of, with_body, with_counts, with_group, with_heading, with_line, with_node, with_share, with_title, with_told, with_tree_line, with_witness, without_tree};
 ghost use Rattle.gd_cert.specs.declared.cert.CertGroup.{CertGroup};
 
@@ -54,7 +55,7 @@ impl CertDraft {
         line: u32,
         words: &[&[u8]],
     ) -> Result<(), LineFault>
-        ensures { Takes (draft_of self.new) result (with_line line (texts words.now) (draft_of self.old)) }
+        ensures { Gives line_cause (λ x. draft_of self.new) result (with_line line (texts words.now) (draft_of self.old)) }
     {
         match self.stage {
             Stage::Title => self.take_title(words),
@@ -71,7 +72,7 @@ impl CertDraft {
     }
 
     fn take_title(&mut self, words: &[&[u8]]) -> Result<(), LineFault>
-        ensures { Takes (draft_of self.new) result (with_title (texts words.now) (draft_of self.old)) }
+        ensures { Gives line_cause (λ x. draft_of self.new) result (with_title (texts words.now) (draft_of self.old)) }
     {
         if !is_title(words) {
             return Err(LineFault::Rule(Rule::Title));
@@ -81,7 +82,7 @@ impl CertDraft {
     }
 
     fn take_heading(&mut self, alloc: Global, words: &[&[u8]]) -> Result<(), LineFault>
-        ensures { Takes (draft_of self.new) result (with_heading (texts words.now) (draft_of self.old)) }
+        ensures { Gives line_cause (λ x. draft_of self.new) result (with_heading (texts words.now) (draft_of self.old)) }
     {
         self.head = read_heading(alloc, words)?;
         self.stage = Stage::Share;
@@ -89,7 +90,7 @@ impl CertDraft {
     }
 
     fn take_share(&mut self, words: &[&[u8]]) -> Result<(), LineFault>
-        ensures { Takes (draft_of self.new) result (with_share (texts words.now) (draft_of self.old)) }
+        ensures { Gives line_cause (λ x. draft_of self.new) result (with_share (texts words.now) (draft_of self.old)) }
     {
         self.share = read_share(words)?;
         self.stage = Stage::Told;
@@ -97,7 +98,7 @@ impl CertDraft {
     }
 
     fn take_told(&mut self, words: &[&[u8]]) -> Result<(), LineFault>
-        ensures { Takes (draft_of self.new) result (with_told (texts words.now) (draft_of self.old)) }
+        ensures { Gives line_cause (λ x. draft_of self.new) result (with_told (texts words.now) (draft_of self.old)) }
     {
         self.told = read_told(words)?;
         self.stage = Stage::Group;
@@ -105,7 +106,7 @@ impl CertDraft {
     }
 
     fn take_group(&mut self, line: u32, words: &[&[u8]]) -> Result<(), LineFault>
-        ensures { Takes (draft_of self.new) result (with_group line (texts words.now) (draft_of self.old)) }
+        ensures { Gives line_cause (λ x. draft_of self.new) result (with_group line (texts words.now) (draft_of self.old)) }
     {
         self.stage = read_group(self.groups.len() + 1, words)?;
         self.begun = line;
@@ -113,7 +114,7 @@ impl CertDraft {
     }
 
     fn take_witness(&mut self, alloc: Global, words: &[&[u8]]) -> Result<(), LineFault>
-        ensures { Takes (draft_of self.new) result (with_witness (texts words.now) (draft_of self.old)) }
+        ensures { Gives line_cause (λ x. draft_of self.new) result (with_witness (texts words.now) (draft_of self.old)) }
     {
         let body = read_witness(alloc, words)?;
         self.add_body(body)?;
@@ -121,7 +122,7 @@ impl CertDraft {
     }
 
     fn take_counts(&mut self, words: &[&[u8]]) -> Result<(), LineFault>
-        ensures { Takes (draft_of self.new) result (with_counts (texts words.now) (draft_of self.old)) }
+        ensures { Gives line_cause (λ x. draft_of self.new) result (with_counts (texts words.now) (draft_of self.old)) }
     {
         self.stage = read_counts(words)?;
         Ok(())
@@ -133,7 +134,7 @@ impl CertDraft {
         line: u32,
         words: &[&[u8]],
     ) -> Result<(), LineFault>
-        ensures { Takes (draft_of self.new) result (with_tree_line line (texts words.now) false (Reject self.old.tree.items) (draft_of self.old)) }
+        ensures { Gives line_cause (λ x. draft_of self.new) result (with_tree_line line (texts words.now) false (Reject self.old.tree.items) (draft_of self.old)) }
     {
         if !is_behind_tree(words) {
             return self.take_node(false, words);
@@ -149,7 +150,7 @@ impl CertDraft {
         words: &[&[u8]],
         counts: Counts,
     ) -> Result<(), LineFault>
-        ensures { Takes (draft_of self.new) result (with_tree_line line (texts words.now) true (Open counts self.old.tree.items) (draft_of self.old)) }
+        ensures { Gives line_cause (λ x. draft_of self.new) result (with_tree_line line (texts words.now) true (Open counts self.old.tree.items) (draft_of self.old)) }
     {
         if !is_behind_tree(words) {
             return self.take_node(true, words);
@@ -169,7 +170,7 @@ impl CertDraft {
 
     // Takes the line behind a group that is whole.
     fn take_behind(&mut self, body: CertBody, line: u32, words: &[&[u8]]) -> Result<(), LineFault>
-        ensures { Takes (draft_of self.new) result (with_group line (texts words.now) (with_body (body_of body) (draft_of self.old))) }
+        ensures { Gives line_cause (λ x. draft_of self.new) result (with_group line (texts words.now) (with_body (body_of body) (draft_of self.old))) }
     {
         self.add_body(body)?;
         self.take_group(line, words)
@@ -177,7 +178,7 @@ impl CertDraft {
 
     #[inline(always)]
     fn take_node(&mut self, undecided: bool, words: &[&[u8]]) -> Result<(), LineFault>
-        ensures { Takes (draft_of self.new) result (with_node undecided (texts words.now) (draft_of self.old)) }
+        ensures { Gives line_cause (λ x. draft_of self.new) result (with_node undecided (texts words.now) (draft_of self.old)) }
     {
         let node = read_node(undecided, words)?;
         self.tree.push(node)?;

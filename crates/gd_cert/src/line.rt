@@ -1,9 +1,10 @@
 // What the words of one line tell.
 ghost use Rattle.std.specs.List.{list_all};
 ghost use Rattle.std.specs.Prelude.{◌≡◌, ◌+◌, ◌<◌, ◌^◌, true};
+ghost use Rattle.gd_base.specs.Causes.{Gives};
 ghost use Rattle.gd_cert.specs.Bounds.{is_requirement_byte};
 ghost use Rattle.gd_cert.specs.Certificates.{body_of, heading_of};
-ghost use Rattle.gd_cert.specs.Drafts.{Answers, texts};
+ghost use Rattle.gd_cert.specs.Drafts.{line_cause, texts};
 ghost use Rattle.gd_cert.specs.Lines.{counts_in, end_in, ends_tree, evidence_in, group_in, heading_in, level_in, lone, node_in, number_and_verdict_in, place_in, probe_in, reason_in, share_in, sized_in, told_in, verdict_in, witness_in};
 ghost use Rattle.gd_cert.specs.Words.{is_requirement, is_word};
 
@@ -20,7 +21,7 @@ use std::str;
 
 /// `plain`, or `probe NAME T`.
 pub(crate) fn read_heading(alloc: Global, words: &[&[u8]]) -> Result<Head, LineFault>
-    ensures { Answers heading_of result (heading_in (texts words.now)) }
+    ensures { Gives line_cause heading_of result (heading_in (texts words.now)) }
 {
     match words {
         [word] => {
@@ -44,7 +45,7 @@ pub(crate) fn read_heading(alloc: Global, words: &[&[u8]]) -> Result<Head, LineF
 // The requirement of a name, at a tolerance.
 fn read_probe(alloc: Global, name: &[u8], tolerance: &[u8]) -> Result<Head, LineFault>
     requires { is_requirement name.now ≡ true }
-    ensures { Answers heading_of result (probe_in name.now tolerance.now) }
+    ensures { Gives line_cause heading_of result (probe_in name.now tolerance.now) }
 {
     let Some(tolerance) = read_below(tolerance, u64::from(TOLERANCE) + 1) else {
         return Err(LineFault::Rule(Rule::Head));
@@ -178,7 +179,7 @@ fn read_verdict(words: &[&[u8]]) -> Option<Stage>
 
 /// `w R n n ..`, with 2 to MOST_DIMS numbers after the root.
 pub(crate) fn read_witness(alloc: Global, words: &[&[u8]]) -> Result<CertBody, LineFault>
-    ensures { Answers body_of result (witness_in (texts words.now)) }
+    ensures { Gives line_cause body_of result (witness_in (texts words.now)) }
 {
     match words {
         [word, place @ ..] => {
@@ -193,7 +194,7 @@ pub(crate) fn read_witness(alloc: Global, words: &[&[u8]]) -> Result<CertBody, L
 }
 
 fn read_place(alloc: Global, words: &[&[u8]]) -> Result<CertBody, LineFault>
-    ensures { Answers body_of result (place_in (texts words.now)) }
+    ensures { Gives line_cause body_of result (place_in (texts words.now)) }
 {
     let [root, at @ ..] = words else {
         return Err(LineFault::Rule(Rule::Words));

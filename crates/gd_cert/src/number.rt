@@ -1,6 +1,7 @@
 // The numbers that words spell.
 ghost use Rattle.std.specs.Prelude.{◌≡◌, ◌<◌, ◌≤◌, ◌^◌, ◌*◌, ◌+◌, ◌-◌, true, IfSome, length, option_map, pos};
-ghost use Rattle.gd_cert.specs.Drafts.{Answers, texts};
+ghost use Rattle.gd_base.specs.Causes.{Gives};
+ghost use Rattle.gd_cert.specs.Drafts.{line_cause, texts};
 ghost use Rattle.gd_cert.specs.Words.{below_zero, number_below, number_of, or_rule, signed_number, signed_numbers};
 ghost use Rattle.gd_cert.specs.declared.rule.Rule.TheVariants as rule;
 
@@ -67,7 +68,7 @@ fn read_below_zero(size: &[u8]) -> Option<i64>
 
 /// The numbers below 2^62 in size that all the words spell.
 pub(crate) fn read_signed_all(alloc: Global, words: &[&[u8]]) -> Result<Vec<i64>, LineFault>
-    ensures { Answers (λ v. v.items) result (or_rule (signed_numbers (texts words.now)) rule.Number) }
+    ensures { Gives line_cause (λ v. v.items) result (or_rule (signed_numbers (texts words.now)) rule.Number) }
 {
     let mut numbers = Vec::new(alloc);
     for word in words {

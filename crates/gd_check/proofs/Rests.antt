@@ -2,6 +2,7 @@
 use Rattle.std.proofs.Common.{arith, ◌≡◌, refl, sym, ap, ◌∙◌, subst, ℕ, ◌+◌, ◌<◌, ◌≤◌, ◌^◌, Option, Some, None, List, [], ◌∷◌, length, map, ◌⊎◌, inl, inr, length-append, codes}
 use Rattle.std.proofs.lemmas.List.Elements.{All-head, All-tail}
 use Rattle.std.specs.List.{All}
+use Rattle.gd_base.specs.Limits.{FILE_BYTES}
 use Rattle.gd_cells.specs.Meaning.{Questions}
 use Rattle.gd_cert.proofs.Sizes.{lines_are_few}
 use Rattle.gd_cert.specs.Bounds.{BodyFits, IsInBounds}
@@ -34,10 +35,10 @@ pub record Rests {T : Type 0} (questions : T → Questions) (budget : ℕ) (wron
   pub line : ℕ
   pub fits : All BodyFits (bodies groups)
   pub keeps : map (λ (group : CertGroup). group.line) groups ≡ first_lines line (bodies groups)
-  pub room : line + lines_count (bodies groups) ≤ 134217728
+  pub room : line + lines_count (bodies groups) ≤ FILE_BYTES
   pub left : wrong ≡ wrong_bodies (map questions tasks) budget line (bodies groups)
 
-pub all_left : {T : Type 0} (questions : T → Questions) (tasks : List T) (c : Cert) → IsInBounds (certificate_of c) → KeepsLines c → length (text (certificate_of c)) ≤ 134217728 →
+pub all_left : {T : Type 0} (questions : T → Questions) (tasks : List T) (c : Cert) → IsInBounds (certificate_of c) → KeepsLines c → length (text (certificate_of c)) ≤ FILE_BYTES →
     Rests questions c.share (wrong_bodies (map questions tasks) c.share 5 (certificate_of c).groups) tasks c.groups.items
 all_left questions tasks c bounds keeps short = record { line = 5; fits = bounds.groups; keeps = keeps; room = omega (arith, text_room (certificate_of c), short); left = refl }
 

@@ -3,6 +3,7 @@ use Rattle.std.proofs.Common.{arith, ◌≡◌, refl, sym, ap, ◌∙◌, subst,
 use Rattle.std.proofs.lemmas.List.{length-append, length-take-le, take-append-drop}
 use Rattle.std.proofs.lemmas.List.Elements.{All-append, All-take, All-cons, All-nil}
 use Rattle.std.specs.List.{All, flat_map}
+use Rattle.gd_base.specs.Limits.{BUDGET}
 use Rattle.gd_base.specs.declared.verdict.Counts.{Counts}
 use Rattle.gd_cells.specs.declared.cell.Cell.{Cell}
 use Rattle.gd_cells.specs.Grid.{cell_of, count_from, MOST_DIMS}
@@ -258,7 +259,7 @@ open_right q refutes budget lines o is there = record {
   end = subst (λ t. IsVerdict q budget (Open t o)) there.same is;
 }
 
-counts_fit : (q : Questions) → IsGrid q.grid → (budget : ℕ) (lines : List Node) (o : Counts) → budget ≤ 1000000 → IsOpenAt q budget lines o → CountsFit o
+counts_fit : (q : Questions) → IsGrid q.grid → (budget : ℕ) (lines : List Node) (o : Counts) → budget ≤ BUDGET → IsOpenAt q budget lines o → CountsFit o
 counts_fit q grid budget lines o few there = record {
   level_fits = omega (arith, there.low, grid.few_levels);
   undecided_fits = omega (arith, there.few);
@@ -292,5 +293,5 @@ tree_is_bounded q grid budget (Open lines o) is =
     let there : IsOpenAt q budget lines o = open_at q grid budget lines o is in
     omega (arith, ap length there.same, tree_long q grid o.level there.low, there.affords, there.splits, grid.few_roots)
 
-pub tree_is_short : (q : Questions) → IsGrid q.grid → (budget : ℕ) (e : End) → budget ≤ 1000000 → IsVerdict q budget e → length (tree_of (body_of_end q e)) ≤ 2 * 1000000 + 4
+pub tree_is_short : (q : Questions) → IsGrid q.grid → (budget : ℕ) (e : End) → budget ≤ BUDGET → IsVerdict q budget e → length (tree_of (body_of_end q e)) ≤ 2 * BUDGET + 4
 tree_is_short q grid budget e few is = omega (arith, tree_is_bounded q grid budget e is)

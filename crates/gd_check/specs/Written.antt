@@ -1,5 +1,6 @@
 -- The certificate that a search leaves.
 use Rattle.std.specs.Prelude.{ℕ, ◌≤◌, take}
+use Rattle.gd_base.specs.Limits.{BUDGET}
 use Rattle.gd_cells.specs.Meaning.{Questions}
 use Rattle.gd_cert.specs.Bounds.{BodyFits}
 use Rattle.gd_cert.specs.Certificates.{Accept, Body, Reject}
@@ -15,4 +16,4 @@ body_of_end q (Open lines counts) = certificates.Open counts lines
 
 -- what the verdict leaves is right for its budget, and can be written
 abbrev pub VerdictIsRight : Questions → Type 0
-VerdictIsRight q = (budget : ℕ) (e : End) → budget ≤ 1000000 → IsVerdict q budget e → IsRightBody q budget (body_of_end q e) × BodyFits (body_of_end q e)
+VerdictIsRight q = (budget : ℕ) (e : End) → budget ≤ BUDGET → IsVerdict q budget e → IsRightBody q budget (body_of_end q e) × BodyFits (body_of_end q e)

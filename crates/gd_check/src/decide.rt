@@ -1,5 +1,6 @@
 // The check.
 ghost use Rattle.std.specs.Prelude.{◌≡◌, ◌≤◌, ◌<◌, ◌+◌, ◌^◌, ◌↔◌, IfOk, length, map};
+ghost use Rattle.gd_base.specs.Limits.{FILE_BYTES};
 ghost use Rattle.gd_cert.specs.Bounds.{IsInBounds};
 ghost use Rattle.gd_cert.specs.Certificates.{certificate_of};
 ghost use Rattle.gd_cert.specs.Text.{KeepsLines, text};
@@ -38,7 +39,7 @@ fn wrong_groups<T: Task>(
 ) -> Result<Option<CertFault>, Memory>
     requires bounds { IsInBounds (certificate_of cert.now) }
     requires lines { KeepsLines cert.now }
-    requires short { length (text (certificate_of cert.now)) ≤ 134217728 }
+    requires short { length (text (certificate_of cert.now)) ≤ FILE_BYTES }
     requires count { length cert.now.groups.items ≡ length tasks.now }
     ensures { IfOk result (λ wrong. wrong
         ≡ wrong_bodies (map T.questions tasks.now) cert.now.share 5 (certificate_of cert.now).groups) }
@@ -61,7 +62,7 @@ fn first_wrong<T: Task>(
 ) -> Result<Option<CertFault>, Memory>
     requires bounds { IsInBounds (certificate_of cert.now) }
     requires lines { KeepsLines cert.now }
-    requires short { length (text (certificate_of cert.now)) ≤ 134217728 }
+    requires short { length (text (certificate_of cert.now)) ≤ FILE_BYTES }
     ensures { IfOk result
         (λ wrong. wrong ≡ first_wrong (map T.questions tasks.now) (certificate_of cert.now)) }
 {
@@ -79,7 +80,7 @@ fn first_wrong<T: Task>(
 pub fn check<T: Task>(alloc: Global, tasks: &[T], cert: &Cert) -> Result<CheckAnswer, Memory>
     requires bounds { IsInBounds (certificate_of cert.now) }
     requires lines { KeepsLines cert.now }
-    requires short { length (text (certificate_of cert.now)) ≤ 134217728 }
+    requires short { length (text (certificate_of cert.now)) ≤ FILE_BYTES }
     // The first wrong line, by the order of the codes.
     ensures exact { IfOk result
         (λ a. answer_of a ≡ first_wrong (map T.questions tasks.now) (certificate_of cert.now)) }

@@ -1,6 +1,7 @@
 // The search.
 ghost use Rattle.std.specs.Prelude.{◌≡◌, ◌≤◌, ◌<◌, ◌+◌, ◌*◌, ◌^◌, ◌≢◌, IfOk, List, ℕ, None, find, length, option_map};
 ghost use Rattle.std.specs.List.{All};
+ghost use Rattle.gd_base.specs.Limits.{BUDGET};
 ghost use Rattle.gd_cells.specs.Grid.{IsCell};
 ghost use Rattle.gd_search.specs.Lines.{left_of, written_roots};
 ghost use Rattle.gd_search.specs.Outcomes.{AcceptsRightly, RejectsRightly, end_of};
@@ -122,7 +123,7 @@ fn search_levels<R: Threads + Sync, T: Task>(
     task: &T,
     budget: u32,
 ) -> Result<Outcome, Memory>
-    requires { budget ≤ 1000000 }
+    requires { budget ≤ BUDGET }
     ensures { IfOk result (λ o. IsVerdict (T.questions task.now) budget (end_of o)) }
 {
     show_laws::<T>();
@@ -162,7 +163,7 @@ pub fn search<R: Threads + Sync, T: Task>(
     task: &T,
     budget: u32,
 ) -> Result<Outcome, Memory>
-    requires { budget ≤ 1000000 }
+    requires { budget ≤ BUDGET }
     ensures verdict { IfOk result (λ o. IsVerdict (T.questions task.now) budget (end_of o)) }
     ensures reject { IfOk result (λ o. RejectsRightly (T.feasible task.now) o) }
     ensures accept { IfOk result

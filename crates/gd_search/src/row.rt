@@ -1,6 +1,7 @@
 // The rows of a level: its cells, and what their bounding finds.
 ghost use Rattle.std.specs.Prelude.{◌≡◌, ◌≤◌, ◌<◌, ◌*◌, IfOk, find, filter, length, map, option_map, vec_len};
 ghost use Rattle.std.specs.List.{All, flat_map};
+ghost use Rattle.gd_base.specs.Limits.{BUDGET};
 ghost use Rattle.gd_cells.specs.Grid.{IsCell, count_from};
 ghost use Rattle.gd_cells.specs.Halves.{whole_root};
 ghost use Rattle.gd_search.specs.Rows.{fresh, is_open, judged, rows_below};
@@ -86,7 +87,7 @@ pub fn half_rows<T: Task>(
 ) -> Result<Vec<Row>, Memory>
     requires cells { All (λ row. IsCell (T.questions task.now).grid row.cell) rows.now }
     requires above { All (λ row. row.cell.level < (T.questions task.now).grid.finest) rows.now }
-    requires room { undecided ≤ 1000000 }
+    requires room { undecided ≤ BUDGET }
     ensures rows { IfOk result (λ v. v.items ≡ flat_map (rows_below (T.questions task.now)) rows.now) }
 {
     let mut below = Vec::with_capacity(alloc, 2 * undecided)?;

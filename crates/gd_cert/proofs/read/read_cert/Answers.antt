@@ -1,9 +1,10 @@
 use Rattle.std.proofs.Common.{◌∙◌, ap, sym, subst}
 use Rattle.std.specs.Prelude.{Ok}
+use Rattle.gd_base.specs.Causes.{IsCause}
 use Rattle.gd_cert.specs.Bounds.{IsInBounds}
 use Rattle.gd_cert.specs.Certificates.{Certificate}
 use Rattle.gd_cert.specs.Drafts.{draft_of}
-use Rattle.gd_cert.specs.Reading.{Fails, certificate_in, reading}
+use Rattle.gd_cert.specs.Reading.{cert_cause, certificate_in, reading}
 use Rattle.gd_cert.specs.Text.{first_lines, text}
 use Rattle.gd_cert.specs.Words.{and_then_read}
 use Rattle.gd_cert.proofs.Again.{reading_again}
@@ -39,4 +40,4 @@ returns-in-Err-clause-exact c = fails_on c.in-Err.fault _ (λ d. Ok (certificate
 pub returns-in-Err-clause-only : goal.returns-in-Err-clause-only
 unfolding reading
 returns-in-Err-clause-only c = λ d bounds is.
-    subst (λ r. Fails c.in-Err.fault r) (ap reading is ∙ reading_again d bounds) (fails_on c.in-Err.fault _ (λ e. Ok (certificate_in e)) c.in-Err.ensures)
+    subst (λ r. IsCause (cert_cause c.in-Err.fault) r) (ap reading is ∙ reading_again d bounds) (fails_on c.in-Err.fault _ (λ e. Ok (certificate_in e)) c.in-Err.ensures)
