@@ -5,7 +5,7 @@ use Rattle.gd_cells.specs.Grid.{halvings}
 use Rattle.gd_cells.specs.declared.cell.Cell.{Cell}
 use Rattle.gd_dir.specs.Boxes.{Encloses, HoldsDirection, IsAsWideAs, IsBelow, IsBox, box_of, direction_of}
 use Rattle.gd_dir.specs.Directions.{RatioWithin, entry, first_other, second_other}
-use Rattle.gd_dir.specs.Faces.{IsFaceCell, high_end, in_turn, index_at, low_end}
+use Rattle.gd_dir.specs.Faces.{IsFaceCell, high_end, faces, index_at, low_end}
 use Rattle.gd_dir.proofs.Ratios.{on_face}
 use Rattle.gd_vec.specs.Vector.{IsWithin}
 use Rattle.gd_vec.specs.declared.vector.V3.{V3}
@@ -54,9 +54,9 @@ corner_within (suc (suc zero)) a b one three h k = record { x = h; y = omega ari
 corner_within (suc (suc (suc zero))) a b one three h k = record { x = h; y = k; z = omega arith }
 corner_within (suc (suc (suc (suc n)))) a b one three h k = absurd (omega arith)
 
-ends_within : (ratio : ℕ) (c : Cell) → index_at ratio c < 2 ^ halvings in_turn ratio c.level → (unsigned_abs (low_end ratio c) ≤ 2 ^ 30) × (unsigned_abs (high_end ratio c) ≤ 2 ^ 30)
+ends_within : (ratio : ℕ) (c : Cell) → index_at ratio c < 2 ^ halvings faces ratio c.level → (unsigned_abs (low_end ratio c) ≤ 2 ^ 30) × (unsigned_abs (high_end ratio c) ≤ 2 ^ 30)
 ends_within ratio c h =
-    let inside = on_face (index_at ratio c) (halvings in_turn ratio c.level) h in
+    let inside = on_face (index_at ratio c) (halvings faces ratio c.level) h in
     (omega (arith, ints, inside), omega (arith, ints, inside))
 
 pub box_fits : (c : Cell) → IsFaceCell c → IsBox (box_of c)

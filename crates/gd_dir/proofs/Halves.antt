@@ -1,16 +1,16 @@
 -- The boxes of the halves of a cell, and that the cells of three faces cover every direction.
-use Rattle.std.proofs.Common.{arith, ◌≡◌, ◌≢◌, refl, sym, ap, ◌∙◌, ℕ, zero, suc, ◌+◌, ◌-◌, ◌*◌, ◌/◌, ◌%◌, ◌^◌, ◌≤◌, ◌<◌, ℤ, pos, neg_ℤ, ◌+ℤ◌, ◌*ℤ◌, ◌≤ℤ◌, ◌<ℤ◌, ◌⊎◌, inl, inr, unsigned_abs, true, false, cond, ◌==◌, pow-suc}
+use Rattle.std.proofs.Common.{arith, ◌≡◌, ◌≢◌, refl, sym, ap, ◌∙◌, ℕ, zero, suc, ◌+◌, ◌-◌, ◌*◌, ◌/◌, ◌%◌, ◌^◌, ◌≤◌, ◌<◌, ℤ, pos, neg_ℤ, ◌+ℤ◌, ◌*ℤ◌, ◌≤ℤ◌, ◌<ℤ◌, ◌⊎◌, inl, inr, unsigned_abs, true, false, cond, ◌==◌, pow-suc, subst}
 use Rattle.std.proofs.lemmas.Bool.{cases_eq}
 use Rattle.std.proofs.lemmas.Grind.{pow_more}
 use Rattle.std.proofs.lemmas.Bool.Decides.{nat_tests}
 use Rattle.std.proofs.lemmas.Int.{ints, by_lt_z}
 use Rattle.std.proofs.lemmas.Nat.{pow-add, pow_pos}
 use Rattle.std.proofs.Math.Nat.{mul-div_cancel_left}
-use Rattle.gd_cells.specs.Grid.{cell_at, halvings, index_of}
+use Rattle.gd_cells.specs.Grid.{cell_of, halvings, index_of}
 use Rattle.gd_cells.specs.declared.cell.Cell.{Cell}
 use Rattle.gd_dir.specs.Covers.{BoxesNest, FacesCover, GridHasFaceCells, HalvesCover, face_cell}
 use Rattle.gd_dir.specs.Directions.{LiesIn, RatioWithin, entry, first_other, second_other}
-use Rattle.gd_dir.specs.Faces.{high_end, in_turn, low_end, width_of}
+use Rattle.gd_dir.specs.Faces.{high_end, faces, low_end, width_of, IsFaceCell}
 use Rattle.gd_dir.proofs.Enclosure.{corners_ordered}
 use Rattle.gd_dir.proofs.Ratios.{halvings_are}
 use Rattle.gd_vec.specs.declared.vector.V3.{V3}
@@ -23,9 +23,9 @@ power_over j k e =
 
 half_width : (ratio l : ℕ) → ratio < 2 → l < 60 → l % 2 ≡ ratio → width_of ratio l ≡ 2 * width_of ratio (suc l)
 half_width ratio l small above turn =
-    let j : ℕ = halvings in_turn ratio l in
+    let j : ℕ = halvings faces ratio l in
     let now : j ≡ (l + 1 - ratio) / 2 = halvings_are ratio l small in
-    let next : halvings in_turn ratio (suc l) ≡ j + 1 = halvings_are ratio (suc l) small ∙ omega (arith, now) in
+    let next : halvings faces ratio (suc l) ≡ j + 1 = halvings_are ratio (suc l) small ∙ omega (arith, now) in
     let few : j + (31 - j) ≡ 31 = omega (arith, now) in
     let less : (j + 1) + (30 - j) ≡ 31 = omega (arith, now) in
     let one : 31 - j ≡ 1 + (30 - j) = omega (arith, now) in
@@ -37,13 +37,13 @@ same_width ratio l small turn =
     ap (λ n. 2 ^ 31 / 2 ^ n) (halvings_are ratio (suc l) small ∙ omega (arith, now))
 
 -- ---- indexes
-halved_index : (ratio l p side : ℕ) → side < 2 → l % 2 ≡ ratio → index_of in_turn ratio (suc l) (2 * p + side) ≡ 2 * index_of in_turn ratio l p + side
+halved_index : (ratio l p side : ℕ) → side < 2 → l % 2 ≡ ratio → index_of faces ratio (suc l) (2 * p + side) ≡ 2 * index_of faces ratio l p + side
 halved_index ratio l p side small e =
     let d : (2 * p + side) / 2 ≡ p = omega arith in
     let m : (2 * p + side) % 2 ≡ side = omega arith in
     rw (e, d, m) (grind (arith, nat_tests))
 
-same_index : (ratio l p side : ℕ) → side < 2 → l % 2 ≢ ratio → index_of in_turn ratio (suc l) (2 * p + side) ≡ index_of in_turn ratio l p
+same_index : (ratio l p side : ℕ) → side < 2 → l % 2 ≢ ratio → index_of faces ratio (suc l) (2 * p + side) ≡ index_of faces ratio l p
 same_index ratio l p side small ne =
     let d : (2 * p + side) / 2 ≡ p = omega arith in
     rw d (grind (arith, nat_tests))
@@ -52,21 +52,21 @@ same_index ratio l p side small ne =
 abbrev low : ℕ → ℕ → ℤ
 low i w = neg_ℤ (pos (2 ^ 30)) +ℤ pos (i * w)
 
-low-is : (ratio root l p : ℕ) → ratio < 2 → low_end ratio (face_cell root l p) ≡ low (index_of in_turn ratio l p) (width_of ratio l)
-unfolding cell_at
+low-is : (ratio root l p : ℕ) → ratio < 2 → low_end ratio (face_cell root l p) ≡ low (index_of faces ratio l p) (width_of ratio l)
+unfolding cell_of
 low-is zero root l p h = refl
 low-is (suc zero) root l p h = refl
 low-is (suc (suc n)) root l p h = absurd (omega arith)
 
 level-is : (root l p : ℕ) → (face_cell root l p).level ≡ l
-unfolding cell_at
+unfolding cell_of
 level-is root l p = refl
 
 root-is : (root l p : ℕ) → (face_cell root l p).root ≡ root
-unfolding cell_at
+unfolding cell_of
 root-is root l p = refl
 
-high-is : (ratio root l p : ℕ) → ratio < 2 → high_end ratio (face_cell root l p) ≡ low (index_of in_turn ratio l p) (width_of ratio l) +ℤ pos (width_of ratio l)
+high-is : (ratio root l p : ℕ) → ratio < 2 → high_end ratio (face_cell root l p) ≡ low (index_of faces ratio l p) (width_of ratio l) +ℤ pos (width_of ratio l)
 high-is ratio root l p h = rw (low-is ratio root l p h, level-is root l p) refl
 
 -- the ends of a half are those of the cell where the other ratio is halved
@@ -107,9 +107,9 @@ parted ratio root l p h above turn =
     let j = halved_index ratio l p 1 (omega arith) turn in
     let w = half_width ratio l h above turn in
     record {
-      lower = rw (low-is ratio root l p h, low-is ratio root (suc l) (2 * p + 0) h, i) (lower-at (index_of in_turn ratio l p) (width_of ratio l) (width_of ratio (suc l)) w);
-      middle = rw (high-is ratio root (suc l) (2 * p + 0) h, low-is ratio root (suc l) (2 * p + 1) h, i, j) (middle-at (index_of in_turn ratio l p) (width_of ratio (suc l)));
-      upper = rw (high-is ratio root l p h, high-is ratio root (suc l) (2 * p + 1) h, j) (upper-at (index_of in_turn ratio l p) (width_of ratio l) (width_of ratio (suc l)) w);
+      lower = rw (low-is ratio root l p h, low-is ratio root (suc l) (2 * p + 0) h, i) (lower-at (index_of faces ratio l p) (width_of ratio l) (width_of ratio (suc l)) w);
+      middle = rw (high-is ratio root (suc l) (2 * p + 0) h, low-is ratio root (suc l) (2 * p + 1) h, i, j) (middle-at (index_of faces ratio l p) (width_of ratio (suc l)));
+      upper = rw (high-is ratio root l p h, high-is ratio root (suc l) (2 * p + 1) h, j) (upper-at (index_of faces ratio l p) (width_of ratio l) (width_of ratio (suc l)) w);
     }
 
 -- ---- the halves cover the cell
@@ -174,7 +174,7 @@ whole : (k x : ℤ) → pos 0 <ℤ k → unsigned_abs x ≤ unsigned_abs k → R
 whole k x h s = (omega (arith, ints), omega (arith, ints))
 
 pub faces_cover : FacesCover
-unfolding cell_at
+unfolding cell_of
 faces_cover zero n one three h = absurd (omega arith)
 faces_cover (suc zero) n one three h = record { root = refl; first = whole n.x n.y h.positive h.y; second = whole n.x n.z h.positive h.z }
 faces_cover (suc (suc zero)) n one three h = record { root = refl; first = whole n.y n.x h.positive h.x; second = whole n.y n.z h.positive h.z }
@@ -205,20 +205,23 @@ boxes_nest root l p side one three above small =
     })
 
 -- ---- the grid's cells are cells of the faces
-index_inside : (ratio l p : ℕ) → p < 2 ^ l → index_of in_turn ratio l p < 2 ^ halvings in_turn ratio l
+index_inside : (ratio l p : ℕ) → p < 2 ^ l → index_of faces ratio l p < 2 ^ halvings faces ratio l
 index_inside ratio zero p h = omega (arith, h)
 index_inside ratio (suc l) p h =
     let half : p / 2 < 2 ^ l = omega (arith, pow-suc 2 l) in
     let above = index_inside ratio l (p / 2) half in
-    elim (l % 2 == ratio) as (λ v. cond v (2 * index_of in_turn ratio l (p / 2) + p % 2) (index_of in_turn ratio l (p / 2)) < 2 ^ cond v (halvings in_turn ratio l + 1) (halvings in_turn ratio l))
-    [ true ↦ rw (pow_more 2 (halvings in_turn ratio l)) (omega (arith, above)) | false ↦ above ]
+    elim (l % 2 == ratio) as (λ v. cond v (2 * index_of faces ratio l (p / 2) + p % 2) (index_of faces ratio l (p / 2)) < 2 ^ cond v (halvings faces ratio l + 1) (halvings faces ratio l))
+    [ true ↦ rw (pow_more 2 (halvings faces ratio l)) (omega (arith, above)) | false ↦ above ]
 
-pub grid_has_face_cells : GridHasFaceCells
-unfolding cell_at
-grid_has_face_cells root l p one three above h = record {
+is_face_cell : (root l p : ℕ) → 1 ≤ root → root ≤ 3 → l ≤ 60 → p < 2 ^ l → IsFaceCell (face_cell root l p)
+unfolding cell_of
+is_face_cell root l p one three above h = record {
   first_root = one;
   last_root = three;
   deepest = above;
   first = index_inside 0 l p h;
   second = index_inside 1 l p h;
 }
+
+pub grid_has_face_cells : GridHasFaceCells
+grid_has_face_cells c cell = subst IsFaceCell (sym cell.same) (is_face_cell cell.root cell.level cell.path cell.first_root cell.last_root cell.deepest cell.inside)

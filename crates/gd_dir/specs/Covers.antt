@@ -1,20 +1,20 @@
 -- The cells of three faces cover every direction, and the boxes of halves lie in those of their cells.
-use Rattle.std.specs.Prelude.{ℕ, suc, ◌+◌, ◌*◌, ◌^◌, ◌≤◌, ◌<◌, ◌⊎◌}
-use Rattle.gd_cells.specs.Grid.{cell_at}
+use Rattle.std.specs.Prelude.{ℕ, suc, ◌+◌, ◌*◌, ◌≤◌, ◌<◌, ◌⊎◌}
+use Rattle.gd_cells.specs.Grid.{cell_of, IsCell}
 use Rattle.gd_cells.specs.declared.cell.Cell.{Cell}
 use Rattle.gd_dir.specs.Boxes.{IsBelow, box_of}
 use Rattle.gd_dir.specs.Directions.{LeadsAlong, LiesIn}
-use Rattle.gd_dir.specs.Faces.{IsFaceCell, in_turn}
+use Rattle.gd_dir.specs.Faces.{IsFaceCell, faces}
 use Rattle.gd_dir.specs.declared.shape.DirBox.{DirBox}
 use Rattle.gd_vec.specs.declared.vector.V3.{V3}
 
 -- the cell of a root, a level and a path
 abbrev pub face_cell : ℕ → ℕ → ℕ → Cell
-face_cell root level path = cell_at in_turn 2 root level path
+face_cell root level path = cell_of faces root level path
 
 -- the grid's cells are cells of the three faces
 abbrev pub GridHasFaceCells : Type 0
-GridHasFaceCells = (root level path : ℕ) → 1 ≤ root → root ≤ 3 → level ≤ 60 → path < 2 ^ level → IsFaceCell (face_cell root level path)
+GridHasFaceCells = (c : Cell) → IsCell faces c → IsFaceCell c
 
 -- a direction that leads along an axis lies in the whole face of that axis
 abbrev pub FacesCover : Type 0

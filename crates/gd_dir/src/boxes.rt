@@ -1,5 +1,5 @@
 // The boxes of the cells of three faces.
-ghost use Rattle.std.specs.Prelude.{◌≡◌, ◌≤◌, ◌^◌, ◌∷◌, replicate, unsigned_abs};
+ghost use Rattle.std.specs.Prelude.{◌≡◌, ◌≤◌, ◌^◌, ◌∷◌, replicate, unsigned_abs, ◌-◌};
 ghost use Rattle.gd_dir.specs.Boxes.{Encloses, IsAsWideAs, IsBox, box_of, direction_of};
 ghost use Rattle.gd_dir.specs.Directions.{LeadsAlong};
 ghost use Rattle.gd_dir.specs.Faces.{IsFaceCell, middle};
@@ -81,18 +81,19 @@ pub fn centre_of(c: &Cell) -> (i64, i64)
 #[cfg(test)]
 mod tests {
     use super::*;
+    use gd_cells::MOST_DIMS;
 
     type Entries = (i64, i64, i64);
 
     // The corners of the box of a cell.
     fn corners(root: u32, level: u32, first: u64, second: u64) -> (Entries, Entries)
-        requires cell { IsFaceCell (record { root = root; level = level; index = first ∷ second ∷ replicate 10 0 }) }
+        requires cell { let index = first ∷ second ∷ replicate (MOST_DIMS - 2) 0 in
+            IsFaceCell (record { root = root; level = level; index = index }) }
     {
-        let c = Cell {
-            root,
-            level,
-            index: [first, second, 0, 0, 0, 0, 0, 0, 0, 0, 0, 0],
-        };
+        let mut index = [0; MOST_DIMS];
+        index[0] = first;
+        index[1] = second;
+        let c = Cell { root, level, index };
         let found = dir_box(FormShape::Flat, &c);
         (
             (found.lo.x, found.lo.y, found.lo.z),

@@ -1,7 +1,7 @@
 // The boxes of a cell's two ratios, in 2^-30.
 ghost use Rattle.std.specs.Prelude.{◌≡◌, ◌≤◌, ◌<◌, ◌^◌, ◌+ℤ◌, ◌≤ℤ◌, pos, unsigned_abs};
 ghost use Rattle.gd_cells.specs.Grid.{halvings};
-ghost use Rattle.gd_dir.specs.Faces.{IsFaceCell, high_end, in_turn, low_end, middle, width_of};
+ghost use Rattle.gd_dir.specs.Faces.{IsFaceCell, high_end, faces, low_end, middle, width_of};
 
 use gd_cells::Cell;
 
@@ -23,7 +23,7 @@ pub struct RatioBox {
 fn halvings_of(ratio: u32, level: u32) -> u32
     requires ratio { ratio < 2 }
     requires level { level ≤ 60 }
-    ensures value { result ≡ halvings in_turn ratio level }
+    ensures value { result ≡ halvings faces ratio level }
     ensures few { result ≤ 30 }
 {
     (level + 1 - ratio) / 2

@@ -1,6 +1,6 @@
 -- Values worked by hand, so that a wrong definition doesn't check.
 use Rattle.std.proofs.Common.{◌≡◌, refl, ℕ, ◌^◌, ◌*◌, pos, neg_ℤ, true, false, Some, None, List, [], ◌∷◌}
-use Rattle.gd_cells.specs.Grid.{cell_at}
+use Rattle.gd_cells.specs.Grid.{cell_of}
 use Rattle.gd_dir.specs.Boxes.{box_of}
 use Rattle.gd_dir.specs.Covers.{face_cell}
 use Rattle.gd_dir.specs.declared.shape.DirBox.{DirBox}
@@ -19,27 +19,27 @@ face root = box_of (face_cell root 0 0)
 
 -- the greatest squared length of a whole face is 3
 known_length : most_norm2 (face 1) ≡ pos (3 * 2 ^ 60)
-unfolding cell_at face
+unfolding cell_of face
 known_length = refl
 
 -- along the whole face of x, 1,000 units along y lie between -1,000 and 1,000
 known_span : (low_along (face 1) (record { x = pos 0; y = pos 1000; z = pos 0 }) ≡ neg_ℤ (pos (1000 * 2 ^ 30))) × (high_along (face 1) (record { x = pos 0; y = pos 1000; z = pos 0 }) ≡ pos (1000 * 2 ^ 30))
-unfolding cell_at face
+unfolding cell_of face
 known_span = (refl, refl)
 
 -- each whole face is refuted by the point on its axis and the first one
 known_evidence : (first_evidence corner 10 (face 1) ≡ Some (evidence_of 1 0)) × (first_evidence corner 10 (face 2) ≡ Some (evidence_of 2 0)) × (first_evidence corner 10 (face 3) ≡ Some (evidence_of 3 0))
-unfolding cell_at face corner point
+unfolding cell_of face corner point
 known_evidence = (refl, refl, refl)
 
 -- to 600 units nothing refutes the face of x: 1,000 is less than 600 roots of 3
 known_none : first_evidence corner 600 (face 1) ≡ None
-unfolding cell_at face corner point
+unfolding cell_of face corner point
 known_none = refl
 
 -- points are numbered from 1, and there is one condition
 known_numbers : (is_refuted corner 10 (face 1) (record { condition = 1; a = 2; b = 0 }) ≡ false) × (is_refuted corner 10 (face 1) (record { condition = 1; a = 5; b = 1 }) ≡ false) × (is_refuted corner 10 (face 1) (record { condition = 2; a = 2; b = 1 }) ≡ false)
-unfolding cell_at face corner point
+unfolding cell_of face corner point
 known_numbers = (refl, refl, refl)
 
 -- along (1, 1, 1) the corner is 1,000 over the root of 3 wide: 577.35 units

@@ -1,16 +1,12 @@
 // Flatness as a task over the cells of three faces.
-ghost use Rattle.std.specs.Prelude.{◌≡◌, ◌<◌, ◌≤◌, ◌^◌, drop, length, nat_le, pos, replicate, ℤ, unsigned_abs};
-ghost use Rattle.std.specs.Cmp.Lexicographic.{pointwise};
-ghost use Rattle.std.specs.List.{All};
-ghost use Rattle.std.specs.Ordering.{int_eq};
-ghost use Rattle.gd_form.specs.Laws.Task.{flat_centre_in_range, flat_centre_names_place, flat_first_is_short, flat_first_refutes, flat_grid, flat_halves_cover, flat_holds_is_feasible, flat_none_refutes, flat_refuted_is_empty, flat_roots_cover};
+ghost use Rattle.std.specs.Prelude.{◌≡◌, ◌<◌, ◌≤◌, ◌^◌, length, nat_le, unsigned_abs};
+ghost use Rattle.gd_form.specs.Laws.Task.{flat_laws};
 ghost use Rattle.gd_form.specs.FlatTask.{IsFeasible, IsInside, assignment_of, direction_at, questions_of};
-ghost use Rattle.gd_vec.specs.Vector.{IsWithin};
 
 use crate::flat::{first_evidence_in, is_refuted_at};
 use crate::points::Points;
 use crate::spread::lies_within;
-use gd_cells::{Cell, Evidence, Task, Witness, split_cell};
+use gd_cells::{Cell, Evidence, Task, Witness, split_cell, witness_of, zeros_behind};
 use gd_dir::{FormShape, centre_of, dir_box, direction};
 use gd_points::PointTable;
 
@@ -63,7 +59,7 @@ impl<'a> Task for FormTask<'a> {
         2
     }
 
-    fn floor_level(&self) -> u32 {
+    fn finest_level(&self) -> u32 {
         60
     }
 
@@ -94,13 +90,7 @@ impl<'a> Task for FormTask<'a> {
 
     fn centre(&self, cell: &Cell) -> Witness {
         let (first, second) = centre_of(cell);
-        let mut at = [0; 12];
-        at[0] = first;
-        at[1] = second;
-        Witness {
-            root: cell.root,
-            at,
-        }
+        witness_of(cell.root, &[first, second])
     }
 
     fn in_range(&self, witness: &Witness) -> bool {
@@ -108,7 +98,7 @@ impl<'a> Task for FormTask<'a> {
             && witness.root <= 3
             && is_ratio(witness.at[0])
             && is_ratio(witness.at[1])
-            && has_two_numbers(witness)
+            && zeros_behind(witness, 2)
     }
 
     fn holds(&self, witness: &Witness) -> bool {
@@ -116,25 +106,7 @@ impl<'a> Task for FormTask<'a> {
         lies_within(&n, &self.points, self.tolerance)
     }
 
-    ghost is_grid = { λ t. flat_grid t.points.table.now.rows t.tolerance };
-
-    ghost roots_cover = { λ t. flat_roots_cover t.points.table.now.rows t.tolerance };
-
-    ghost halves_cover = { λ t. flat_halves_cover t.points.table.now.rows t.tolerance };
-
-    ghost first_refutes = { λ t. flat_first_refutes t.points.table.now.rows t.tolerance t.points.some };
-
-    ghost none_refutes = { λ t. flat_none_refutes t.points.table.now.rows t.tolerance };
-
-    ghost first_is_short = { λ t. flat_first_is_short t.points.table.now.rows t.tolerance t.points.some t.points.few };
-
-    ghost refuted_is_empty = { λ t. flat_refuted_is_empty t.points.table.now.rows t.tolerance };
-
-    ghost centre_in_range = { λ t. flat_centre_in_range t.points.table.now.rows t.tolerance };
-
-    ghost holds_is_feasible = { λ t. flat_holds_is_feasible t.points.table.now.rows t.tolerance };
-
-    ghost centre_names_place = { λ t. flat_centre_names_place t.points.table.now.rows t.tolerance };
+    ghost laws = { λ t. flat_laws t.points.table.now.rows t.tolerance t.points.some t.points.few };
 }
 
 // Whether a ratio in 2^-30 lies between -1 and 1.
@@ -143,12 +115,4 @@ fn is_ratio(ratio: i64) -> bool
     ensures { result ≡ nat_le (unsigned_abs ratio) (2 ^ 30) }
 {
     ratio.unsigned_abs() <= ONE
-}
-
-// Whether the numbers of a witness behind the first two are 0.
-#[inline]
-fn has_two_numbers(witness: &Witness) -> bool
-    ensures { result ≡ pointwise int_eq (drop 2 witness.now.at) (replicate 10 (pos 0)) }
-{
-    witness.at[2..] == [0; 10]
 }

@@ -1,14 +1,13 @@
 -- The laws of flatness as a task.
-use Rattle.std.proofs.Common.{arith, ◌≡◌, refl, sym, subst, ℕ, zero, suc, ◌+◌, ◌^◌, ◌<◌, ◌≤◌, pos, Bool, true, false, cond, ◌==◌, ◌&&◌, nat_le, ℤ, List, ◌∷◌, length, drop, replicate, unsigned_abs}
+use Rattle.std.proofs.Common.{arith, ◌≡◌, refl, ℕ, ◌^◌, ◌<◌, ◌≤◌, pos, Bool, true, false, ◌&&◌, nat_le, ℤ, List, ◌∷◌, length, replicate, unsigned_abs, ◌-◌}
 use Rattle.std.proofs.lemmas.List.Elements.{All-cons, All-replicate}
 use Rattle.std.proofs.lemmas.Bool.{false≢true}
 use Rattle.std.proofs.lemmas.Bool.Decides.{nat_tests}
 use Rattle.std.proofs.lemmas.Int.{ints}
-use Rattle.std.specs.Cmp.Lexicographic.{pointwise}
-use Rattle.std.specs.Ordering.{int_eq}
-use Rattle.gd_cells.specs.Grid.{halvings}
-use Rattle.gd_cells.specs.Laws.{CentreInRange, CentreNamesPlace, FirstIsShort, FirstRefutes, HalvesCover, HoldsIsFeasible, IsGrid, NoneRefutes, RefutedIsEmpty, RootsCover}
-use Rattle.gd_cells.specs.Meaning.{IsCell}
+use Rattle.gd_cells.specs.Witnesses.{zeros_behind}
+use Rattle.gd_cells.proofs.Cells.{halvings_few}
+use Rattle.gd_cells.specs.Grid.{halvings, MOST_DIMS}
+use Rattle.gd_cells.specs.Laws.{CentreInRange, CentreNamesPlace, FirstIsShort, FirstRefutes, HalvesCover, HoldsIsFeasible, IsGrid, NoneRefutes, RefutedIsEmpty, RootsCover, Laws}
 use Rattle.gd_cells.specs.declared.cell.Cell.{Cell}
 use Rattle.gd_cells.specs.declared.cell.Witness.{Witness}
 use Rattle.gd_dir.proofs.Enclosure.{box_encloses}
@@ -16,7 +15,7 @@ use Rattle.gd_dir.proofs.Halves.{faces_cover, grid_has_face_cells, halves_cover}
 use Rattle.gd_dir.proofs.Ratios.{on_face}
 use Rattle.gd_dir.specs.Boxes.{box_of}
 use Rattle.gd_dir.specs.Directions.{entry}
-use Rattle.gd_dir.specs.Faces.{IsFaceCell, in_turn, index_at, middle}
+use Rattle.gd_dir.specs.Faces.{index_at, middle, faces}
 use Rattle.gd_form.specs.Laws.Accepts.{leads, within_is_flat}
 use Rattle.gd_form.specs.Laws.Evidences.{first_is_short, first_refutes, none_refutes}
 use Rattle.gd_form.specs.Laws.Refutations.{refuted_is_empty}
@@ -24,14 +23,8 @@ use Rattle.gd_form.specs.FlatTask.{IsFeasible, IsInside, assignment_of, axis_of,
 use Rattle.gd_points.specs.declared.table.Row.{Row}
 
 -- ---- the grid
-no_more : (steps : ℕ → ℕ) (coordinate l : ℕ) → halvings steps coordinate l ≤ l
-no_more steps coordinate zero = omega arith
-no_more steps coordinate (suc l) =
-    let before = no_more steps coordinate l in
-    elim (steps l == coordinate) as (λ v. cond v (halvings steps coordinate l + 1) (halvings steps coordinate l) ≤ suc l) [ true ↦ omega (arith, before) | false ↦ omega (arith, before) ]
-
-pub flat_grid : (rows : List Row) (tolerance : ℕ) → IsGrid (questions_of rows tolerance)
-flat_grid rows tolerance = record {
+pub faces_grid : IsGrid faces
+faces_grid = record {
   some_roots = omega arith;
   few_roots = omega arith;
   some_dims = omega arith;
@@ -39,38 +32,35 @@ flat_grid rows tolerance = record {
   few_numbers = omega arith;
   few_levels = omega arith;
   coordinates = λ l h. omega arith;
-  few_halvings = λ coordinate. no_more in_turn coordinate 60;
+  few_halvings = λ coordinate. halvings_few faces coordinate 60;
 }
 
-pub face_of : (rows : List Row) (tolerance : ℕ) (c : Cell) → IsCell (questions_of rows tolerance) c → IsFaceCell c
-face_of rows tolerance c cell = subst IsFaceCell (sym cell.same) (grid_has_face_cells cell.root cell.level cell.path cell.first_root cell.last_root cell.deepest cell.inside)
-
 -- ---- the cells cover
-pub flat_roots_cover : (rows : List Row) (tolerance : ℕ) → RootsCover (questions_of rows tolerance) (IsFeasible rows tolerance) IsInside
-flat_roots_cover rows tolerance a feasible = record {
+roots_cover : (rows : List Row) (tolerance : ℕ) → RootsCover faces (IsFeasible rows tolerance) IsInside
+roots_cover rows tolerance a feasible = record {
   root = axis_of a;
   first = feasible.first;
   last = feasible.last;
   lies_inside = faces_cover (axis_of a) (vector_of a) feasible.first feasible.last feasible.leads;
 }
 
-pub flat_halves_cover : (rows : List Row) (tolerance : ℕ) → HalvesCover (questions_of rows tolerance) IsInside
-flat_halves_cover rows tolerance a root level path one last above inside lies = halves_cover root level path (axis_of a) (vector_of a) above lies
+faces_halve : HalvesCover faces IsInside
+faces_halve a root level path one last above inside lies = halves_cover root level path (axis_of a) (vector_of a) above lies
 
 -- ---- evidence
-pub flat_first_refutes : (rows : List Row) (tolerance : ℕ) → 0 < length rows → FirstRefutes (questions_of rows tolerance)
+flat_first_refutes : (rows : List Row) (tolerance : ℕ) → 0 < length rows → FirstRefutes (questions_of rows tolerance)
 flat_first_refutes rows tolerance some c e cell first = first_refutes rows tolerance (box_of c) e some first
 
-pub flat_none_refutes : (rows : List Row) (tolerance : ℕ) → NoneRefutes (questions_of rows tolerance)
+flat_none_refutes : (rows : List Row) (tolerance : ℕ) → NoneRefutes (questions_of rows tolerance)
 flat_none_refutes rows tolerance c e cell none = none_refutes rows tolerance (box_of c) e none
 
-pub flat_first_is_short : (rows : List Row) (tolerance : ℕ) → 0 < length rows → length rows ≤ 200000 → FirstIsShort (questions_of rows tolerance)
+flat_first_is_short : (rows : List Row) (tolerance : ℕ) → 0 < length rows → length rows ≤ 200000 → FirstIsShort (questions_of rows tolerance)
 flat_first_is_short rows tolerance some few c e cell first = first_is_short rows tolerance (box_of c) e some few first
 
-pub flat_refuted_is_empty : (rows : List Row) (tolerance : ℕ) → RefutedIsEmpty (questions_of rows tolerance) (IsFeasible rows tolerance) IsInside
+flat_refuted_is_empty : (rows : List Row) (tolerance : ℕ) → RefutedIsEmpty (questions_of rows tolerance) (IsFeasible rows tolerance) IsInside
 flat_refuted_is_empty rows tolerance c e a cell refuted lies feasible =
     refuted_is_empty rows tolerance (box_of c) e (entry (axis_of a) (vector_of a)) (vector_of a) refuted feasible.leads.positive
-    (box_encloses c (face_of rows tolerance c cell) (axis_of a) (vector_of a) feasible.leads lies) feasible.zone
+    (box_encloses c (grid_has_face_cells c cell) (axis_of a) (vector_of a) feasible.leads lies) feasible.zone
 
 -- ---- witnesses
 pub record InRange (w : Witness) : Type 0 where
@@ -78,7 +68,7 @@ pub record InRange (w : Witness) : Type 0 where
   pub last_root : w.root ≤ 3
   pub first : unsigned_abs (ratio_at 0 w) ≤ 2 ^ 30
   pub second : unsigned_abs (ratio_at 1 w) ≤ 2 ^ 30
-  pub rest : pointwise int_eq (drop 2 w.at) (replicate 10 (pos 0)) ≡ true
+  pub rest : zeros_behind 2 w ≡ true
 
 le_true : (a b : ℕ) → a ≤ b → nat_le a b ≡ true
 le_true a b h = grind (arith, nat_tests)
@@ -99,34 +89,34 @@ five true true true true false h = absurd (false≢true h)
 
 pub in_range_gives : (w : Witness) → is_in_range w ≡ true → InRange w
 in_range_gives w h =
-    let f = five (nat_le 1 w.root) (nat_le w.root 3) (nat_le (unsigned_abs (ratio_at 0 w)) (2 ^ 30)) (nat_le (unsigned_abs (ratio_at 1 w)) (2 ^ 30)) (pointwise int_eq (drop 2 w.at) (replicate 10 (pos 0))) h in
+    let f = five (nat_le 1 w.root) (nat_le w.root 3) (nat_le (unsigned_abs (ratio_at 0 w)) (2 ^ 30)) (nat_le (unsigned_abs (ratio_at 1 w)) (2 ^ 30)) (zeros_behind 2 w) h in
     record { first_root = true_le 1 w.root f.0; last_root = true_le w.root 3 f.1; first = true_le _ (2 ^ 30) f.2; second = true_le _ (2 ^ 30) f.3; rest = f.4 }
 
-middle_size : (ratio : ℕ) (c : Cell) → index_at ratio c < 2 ^ halvings in_turn ratio c.level → unsigned_abs (middle ratio c) ≤ 2 ^ 30
-middle_size ratio c h = let inside = on_face (index_at ratio c) (halvings in_turn ratio c.level) h in omega (arith, ints, inside)
+middle_size : (ratio : ℕ) (c : Cell) → index_at ratio c < 2 ^ halvings faces ratio c.level → unsigned_abs (middle ratio c) ≤ 2 ^ 30
+middle_size ratio c h = let inside = on_face (index_at ratio c) (halvings faces ratio c.level) h in omega (arith, ints, inside)
 
-pub flat_centre_in_range : (rows : List Row) (tolerance : ℕ) → CentreInRange (questions_of rows tolerance)
+flat_centre_in_range : (rows : List Row) (tolerance : ℕ) → CentreInRange (questions_of rows tolerance)
 flat_centre_in_range rows tolerance c cell =
-    let f = face_of rows tolerance c cell in
-    in_range_from ((questions_of rows tolerance).centre c) (record { first_root = f.first_root; last_root = f.last_root; first = middle_size 0 c f.first; second = middle_size 1 c f.second; rest = refl })
+    let f = grid_has_face_cells c cell in
+    in_range_from ((questions_of rows tolerance).tests.centre c) (record { first_root = f.first_root; last_root = f.last_root; first = middle_size 0 c f.first; second = middle_size 1 c f.second; rest = refl })
 
 abbrev is_small : ℤ → Type 0
 is_small x = unsigned_abs x < 2 ^ 62
 
-pub flat_centre_names_place : (rows : List Row) (tolerance : ℕ) → CentreNamesPlace (questions_of rows tolerance)
+flat_centre_names_place : (rows : List Row) (tolerance : ℕ) → CentreNamesPlace (questions_of rows tolerance)
 flat_centre_names_place rows tolerance c cell =
-    let f = face_of rows tolerance c cell in
+    let f = grid_has_face_cells c cell in
     let first : unsigned_abs (middle 0 c) ≤ 2 ^ 30 = middle_size 0 c f.first in
     let second : unsigned_abs (middle 1 c) ≤ 2 ^ 30 = middle_size 1 c f.second in
     record {
       room = refl;
       first = f.first_root;
       last = f.last_root;
-      sizes = All-cons is_small (middle 0 c) (middle 1 c ∷ replicate 10 (pos 0)) (omega (arith, first)) (All-cons is_small (middle 1 c) (replicate 10 (pos 0)) (omega (arith, second)) (All-replicate is_small 10 (pos 0) (omega arith)));
+      sizes = All-cons is_small (middle 0 c) (middle 1 c ∷ replicate (MOST_DIMS - 2) (pos 0)) (omega (arith, first)) (All-cons is_small (middle 1 c) (replicate (MOST_DIMS - 2) (pos 0)) (omega (arith, second)) (All-replicate is_small (MOST_DIMS - 2) (pos 0) (omega arith)));
       behind = refl;
     }
 
-pub flat_holds_is_feasible : (rows : List Row) (tolerance : ℕ) → HoldsIsFeasible (questions_of rows tolerance) (IsFeasible rows tolerance) (λ w. assignment_of w.root (direction_at w))
+flat_holds_is_feasible : (rows : List Row) (tolerance : ℕ) → HoldsIsFeasible (questions_of rows tolerance) (IsFeasible rows tolerance) (λ w. assignment_of w.root (direction_at w))
 flat_holds_is_feasible rows tolerance w in_range holds =
     let r = in_range_gives w in_range in
     record {
@@ -135,3 +125,18 @@ flat_holds_is_feasible rows tolerance w in_range holds =
       leads = leads w.root (ratio_at 0 w) (ratio_at 1 w) r.first r.second r.first_root r.last_root;
       zone = within_is_flat rows tolerance (direction_at w) holds;
     }
+
+-- ---- all of them
+pub flat_laws : (rows : List Row) (tolerance : ℕ) → 0 < length rows → length rows ≤ 200000 → Laws (questions_of rows tolerance) (IsFeasible rows tolerance) IsInside (λ w. assignment_of w.root (direction_at w))
+flat_laws rows tolerance some few = record {
+  is_grid = faces_grid;
+  roots_cover = roots_cover rows tolerance;
+  halves_cover = faces_halve;
+  first_refutes = flat_first_refutes rows tolerance some;
+  none_refutes = flat_none_refutes rows tolerance;
+  first_is_short = flat_first_is_short rows tolerance some few;
+  refuted_is_empty = flat_refuted_is_empty rows tolerance;
+  centre_in_range = flat_centre_in_range rows tolerance;
+  holds_is_feasible = flat_holds_is_feasible rows tolerance;
+  centre_names_place = flat_centre_names_place rows tolerance;
+}
