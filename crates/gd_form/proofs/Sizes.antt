@@ -3,6 +3,7 @@ use Rattle.std.proofs.Common.{arith, ◌≡◌, refl, ℕ, ◌+◌, ◌*◌, ◌
 use Rattle.std.proofs.lemmas.Int.{ints, clamps, fits_signed_from_abs, to_z-of_z, unsigned_abs-mul}
 use Rattle.std.proofs.lemmas.Nat.{mul-le}
 use Rattle.std.specs.Int.{int_max, int_min, w128}
+use Rattle.gd_base.specs.Limits.{TOLERANCE}
 use Rattle.gd_vec.specs.Vector.{IsWithin, norm2_of}
 use Rattle.gd_vec.specs.declared.vector.V3.{V3}
 
@@ -29,9 +30,9 @@ pub record Multiplied (a b : ℤ) : Type 0 where
   pub value : kept (kept a *ℤ kept b) ≡ a *ℤ b
   pub size : unsigned_abs (a *ℤ b) ≤ 2 ^ 54
 
-pub multiplied : (a b : ℤ) → unsigned_abs a ≤ 2 ^ 30 → unsigned_abs b ≤ 16000000 → Multiplied a b
+pub multiplied : (a b : ℤ) → unsigned_abs a ≤ 2 ^ 30 → unsigned_abs b ≤ TOLERANCE → Multiplied a b
 multiplied a b x y =
-    let most : unsigned_abs (a *ℤ b) ≤ 2 ^ 30 * 16000000 = rw unsigned_abs-mul (mul-le (unsigned_abs a) (unsigned_abs b) (2 ^ 30) 16000000 x y) in
+    let most : unsigned_abs (a *ℤ b) ≤ 2 ^ 30 * TOLERANCE = rw unsigned_abs-mul (mul-le (unsigned_abs a) (unsigned_abs b) (2 ^ 30) TOLERANCE x y) in
     let ka = kept-is a (omega (arith, x)) in
     let kb = kept-is b (omega (arith, y)) in
     let kab = kept-is (a *ℤ b) (omega (arith, most)) in
@@ -57,10 +58,10 @@ norm2-size n h =
     let z = square-size n.z h.z in
     omega (arith, ints, x, y, z)
 
-pub tolerance-size : (t m : ℕ) → t ≤ 16000000 → m ≤ 3 * 2 ^ 60 → t * t * m < 2 ^ 126
+pub tolerance-size : (t m : ℕ) → t ≤ TOLERANCE → m ≤ 3 * 2 ^ 60 → t * t * m < 2 ^ 126
 tolerance-size t m h k =
-    let square : t * t ≤ 16000000 * 16000000 = mul-le t t 16000000 16000000 h h in
-    let all : t * t * m ≤ 16000000 * 16000000 * (3 * 2 ^ 60) = mul-le (t * t) m (16000000 * 16000000) (3 * 2 ^ 60) square k in
+    let square : t * t ≤ TOLERANCE * TOLERANCE = mul-le t t TOLERANCE TOLERANCE h h in
+    let all : t * t * m ≤ TOLERANCE * TOLERANCE * (3 * 2 ^ 60) = mul-le (t * t) m (TOLERANCE * TOLERANCE) (3 * 2 ^ 60) square k in
     omega (arith, all)
 
 -- ---- wide numbers

@@ -8,7 +8,7 @@ use Rattle.gd_dir.specs.Boxes.{box_of, direction_of}
 use Rattle.gd_dir.specs.Directions.{LiesIn}
 use Rattle.gd_dir.specs.Faces.{faces, middle}
 use Rattle.gd_form.specs.FlatTests.{first_evidence, is_refuted, is_within}
-use Rattle.gd_form.specs.Flatness.{IsFlat}
+use Rattle.gd_form.specs.Flatness.{IsFlatAlong}
 use Rattle.gd_points.specs.declared.table.Row.{Row}
 use Rattle.gd_vec.specs.declared.vector.V3.{V3}
 
@@ -24,7 +24,7 @@ vector_of a = record { x = get_or a 1 (pos 0); y = get_or a 2 (pos 0); z = get_o
 
 -- the points are flat across the direction
 abbrev pub IsFeasible : List Row → ℕ → List ℤ → Type 0
-IsFeasible rows tolerance a = IsFlat rows tolerance (axis_of a) (vector_of a)
+IsFeasible rows tolerance a = IsFlatAlong rows tolerance (axis_of a) (vector_of a)
 
 -- the direction lies in the cell
 abbrev pub IsInside : List ℤ → Cell → Type 0

@@ -2,6 +2,7 @@
 ghost use Rattle.std.specs.Prelude.{◌≡◌, ◌<◌, ◌≤◌, ◌≤ℤ◌, ◌^◌, ◌*◌, ◌-ℤ◌, ◌*ℤ◌, false, true, pos, unsigned_abs, cond, get_or, int_lt, length, take};
 ghost use Rattle.std.specs.List.{All};
 ghost use Rattle.std.specs.Ordering.{int_eq};
+ghost use Rattle.gd_base.specs.Limits.{COORDINATE, TOLERANCE};
 ghost use Rattle.gd_dir.specs.Boxes.{IsBox};
 ghost use Rattle.gd_form.specs.FlatTests.{AreOne, greatest, highs, least, lows, place_of, scale_hi, scale_lo};
 
@@ -59,7 +60,7 @@ fn are_one(lo: i64, hi: i64) -> bool
 // 1 times a difference of coordinates.
 #[inline(always)]
 fn scale_one(by: i32) -> Span
-    requires { unsigned_abs by ≤ 16000000 }
+    requires { unsigned_abs by ≤ TOLERANCE }
     ensures lo { result.lo ≡ pos (2 ^ 30) *ℤ by }
     ensures hi { result.hi ≡ pos (2 ^ 30) *ℤ by }
     ensures lo_size { unsigned_abs result.lo ≤ 2 ^ 54 }
@@ -89,7 +90,7 @@ fn scale(lo: i32, hi: i32, by: i32) -> Span
     requires order { lo ≤ℤ hi }
     requires lo { unsigned_abs lo ≤ 2 ^ 30 }
     requires hi { unsigned_abs hi ≤ 2 ^ 30 }
-    requires by { unsigned_abs by ≤ 16000000 }
+    requires by { unsigned_abs by ≤ TOLERANCE }
     ensures lo { result.lo ≡ scale_lo lo hi by }
     ensures hi { result.hi ≡ scale_hi lo hi by }
     ensures lo_size { unsigned_abs result.lo ≤ 2 ^ 54 }
@@ -104,10 +105,10 @@ fn scale(lo: i32, hi: i32, by: i32) -> Span
 // The difference of two coordinates.
 #[inline(always)]
 fn apart(a: i32, b: i32) -> i32
-    requires a { unsigned_abs a ≤ 8000000 }
-    requires b { unsigned_abs b ≤ 8000000 }
+    requires a { unsigned_abs a ≤ COORDINATE }
+    requires b { unsigned_abs b ≤ COORDINATE }
     ensures value { result ≡ a -ℤ b }
-    ensures size { unsigned_abs result ≤ 16000000 }
+    ensures size { unsigned_abs result ≤ TOLERANCE }
 {
     a - b
 }
@@ -119,8 +120,8 @@ fn along_axis(leads: bool, lo: i64, hi: i64, at: i32, first: i32) -> Span
     requires order { lo ≤ℤ hi }
     requires lo { unsigned_abs lo ≤ 2 ^ 30 }
     requires hi { unsigned_abs hi ≤ 2 ^ 30 }
-    requires at { unsigned_abs at ≤ 8000000 }
-    requires first { unsigned_abs first ≤ 8000000 }
+    requires at { unsigned_abs at ≤ COORDINATE }
+    requires first { unsigned_abs first ≤ COORDINATE }
     ensures lo { result.lo ≡ scale_lo lo hi (at -ℤ first) }
     ensures hi { result.hi ≡ scale_hi lo hi (at -ℤ first) }
     ensures lo_size { unsigned_abs result.lo ≤ 2 ^ 54 }

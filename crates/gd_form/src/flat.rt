@@ -2,6 +2,7 @@
 ghost use Rattle.std.specs.Prelude.{◌≡◌, ◌<◌, ◌≤◌, ◌^◌, ◌*◌, ◌-ℤ◌, ◌*ℤ◌, ◌≤ℤ◌, pos, false, unsigned_abs, length, nat_le, take, ◌&&◌};
 ghost use Rattle.std.specs.List.{All};
 ghost use Rattle.std.specs.Ordering.{int_eq, is_gt};
+ghost use Rattle.gd_base.specs.Limits.{TOLERANCE};
 ghost use Rattle.gd_dir.specs.Boxes.{IsBox};
 ghost use Rattle.gd_form.specs.FlatTests.{evidence_of, first_evidence, highs, is_point, is_refuted, lows, most_norm2, parts, place_of, square_hi};
 ghost use Rattle.gd_int.specs.Roots.{cmp_root_of};
@@ -55,7 +56,7 @@ fn are_parted(b: &DirBox, lo: i64, hi: i64, tolerance: u32) -> bool
     requires directions { IsBox b.now }
     requires lo { unsigned_abs lo ≤ 3 * 2 ^ 54 }
     requires hi { unsigned_abs hi ≤ 3 * 2 ^ 54 }
-    requires tolerance { tolerance ≤ 16000000 }
+    requires tolerance { tolerance ≤ TOLERANCE }
     ensures { result ≡ is_gt (cmp_root_of (lo -ℤ hi) (pos tolerance) (most_norm2 b.now)) }
 {
     let apart = lo - hi;
@@ -65,7 +66,7 @@ fn are_parted(b: &DirBox, lo: i64, hi: i64, tolerance: u32) -> bool
 /// The first evidence that refutes a box: the farthest point and the nearest.
 pub fn first_evidence_in(b: &DirBox, points: &Points<'_>, tolerance: u32) -> Option<Evidence>
     requires directions { IsBox b.now }
-    requires tolerance { tolerance ≤ 16000000 }
+    requires tolerance { tolerance ≤ TOLERANCE }
     ensures { result ≡ first_evidence points.now.table.now.rows tolerance b.now }
 {
     let extremes = extremes_along(b, points);
@@ -112,7 +113,7 @@ fn names_a_point(number: u32, points: &Points<'_>) -> bool
 // Whether the points at two places, from 0, part a box.
 fn places_part(b: &DirBox, points: &Points<'_>, tolerance: u32, far: usize, near: usize) -> bool
     requires directions { IsBox b.now }
-    requires tolerance { tolerance ≤ 16000000 }
+    requires tolerance { tolerance ≤ TOLERANCE }
     requires far { far < length points.now.table.now.rows }
     requires near { near < length points.now.table.now.rows }
     ensures { result ≡ parts points.now.table.now.rows tolerance b.now far near }
@@ -125,7 +126,7 @@ fn places_part(b: &DirBox, points: &Points<'_>, tolerance: u32, far: usize, near
 /// Whether this evidence refutes a box.
 pub fn is_refuted_at(b: &DirBox, points: &Points<'_>, tolerance: u32, evidence: &Evidence) -> bool
     requires directions { IsBox b.now }
-    requires tolerance { tolerance ≤ 16000000 }
+    requires tolerance { tolerance ≤ TOLERANCE }
     ensures { result ≡ is_refuted points.now.table.now.rows tolerance b.now evidence.now }
 {
     evidence.condition == FLATNESS

@@ -1,6 +1,7 @@
 // The points of a task: their table, and beside it their coordinates axis by axis.
 ghost use Rattle.std.specs.Prelude.{◌≡◌, ◌<◌, ◌≤◌, ◌*◌, ◌^◌, length};
 ghost use Rattle.std.specs.List.{All};
+ghost use Rattle.gd_base.specs.Limits.{POINTS};
 ghost use Rattle.gd_form.specs.FlatTests.{point_at};
 ghost use Rattle.gd_points.specs.Columns.{AreColumns};
 ghost use Rattle.gd_vec.specs.Vector.{IsWithin};
@@ -13,7 +14,7 @@ pub struct Points<'a> {
     pub table: &'a PointTable,
     pub columns: Columns<'a>,
     ghost some: { 0 < length table.now.rows },
-    ghost few: { length table.now.rows ≤ 200000 },
+    ghost few: { length table.now.rows ≤ POINTS },
     ghost within: { All (λ row. IsWithin 8000000 row.at) table.now.rows },
     ghost same: { AreColumns columns.x.now columns.y.now columns.z.now table.now.rows },
 }
@@ -47,7 +48,7 @@ const BLOCK: usize = 512;
 #[inline]
 pub fn block_end(from: usize, count: usize) -> usize
     requires from { from < count }
-    requires count { count ≤ 200000 }
+    requires count { count ≤ POINTS }
     ensures more { from < result }
     ensures most { result ≤ count }
 {

@@ -1,6 +1,7 @@
 // Short products: an entry of a direction is at most 2^30, a coordinate or a difference of two at most 16,000,000 units.
 // Factors of 32 bits make products of 64, so that a processor forms several at a time.
 ghost use Rattle.std.specs.Prelude.{◌≡◌, ◌≤◌, ◌^◌, ◌*◌, ◌*ℤ◌, ◌+ℤ◌, unsigned_abs};
+ghost use Rattle.gd_base.specs.Limits.{TOLERANCE};
 
 // An entry of a direction in 32 bits.
 #[inline(always)]
@@ -15,7 +16,7 @@ pub fn short(entry: i64) -> i32
 #[inline(always)]
 pub fn times(a: i32, b: i32) -> i64
     requires a { unsigned_abs a ≤ 2 ^ 30 }
-    requires b { unsigned_abs b ≤ 16000000 }
+    requires b { unsigned_abs b ≤ TOLERANCE }
     ensures value { result ≡ a *ℤ b }
     ensures size { unsigned_abs result ≤ 2 ^ 54 }
 {

@@ -1,6 +1,7 @@
 // Flatness across one direction.
 ghost use Rattle.std.specs.Prelude.{◌≡◌, ◌<◌, ◌≤◌, ◌^◌, ◌*◌, ◌-ℤ◌, get_or, length, pos, take, unsigned_abs};
 ghost use Rattle.std.specs.Ordering.{is_le};
+ghost use Rattle.gd_base.specs.Limits.{TOLERANCE};
 ghost use Rattle.gd_form.specs.FlatTests.{along, greatest, is_within, least};
 ghost use Rattle.gd_int.specs.Roots.{cmp_root_of};
 ghost use Rattle.gd_vec.specs.Vector.{IsWithin, norm2_of};
@@ -60,7 +61,7 @@ fn is_narrow(n: &V3, span: Span, tolerance: u32) -> bool
     requires direction { IsWithin (2 ^ 30) n.now }
     requires lo_size { unsigned_abs span.lo ≤ 3 * 2 ^ 54 }
     requires hi_size { unsigned_abs span.hi ≤ 3 * 2 ^ 54 }
-    requires tolerance { tolerance ≤ 16000000 }
+    requires tolerance { tolerance ≤ TOLERANCE }
     ensures { result ≡ is_le (cmp_root_of (span.hi -ℤ span.lo) (pos tolerance) (norm2_of n.now)) }
 {
     let spread = span.hi - span.lo;
@@ -70,7 +71,7 @@ fn is_narrow(n: &V3, span: Span, tolerance: u32) -> bool
 /// Whether the points lie within the tolerance, in units, along a direction in 2^-30. It looks at no further block of points once those before are too far apart.
 pub fn lies_within(n: &V3, points: &Points<'_>, tolerance: u32) -> bool
     requires direction { IsWithin (2 ^ 30) n.now }
-    requires tolerance { tolerance ≤ 16000000 }
+    requires tolerance { tolerance ≤ TOLERANCE }
     ensures { result ≡ is_within points.now.table.now.rows tolerance n.now }
 {
     let count = points.table.len();
@@ -100,7 +101,7 @@ mod tests {
 
     // Whether the points of a file lie within a tolerance along (1, 1, 0).
     fn are_near(alloc: Global, file: &[u8], tolerance: u32) -> Option<bool>
-        requires { tolerance ≤ 16000000 }
+        requires { tolerance ≤ TOLERANCE }
     {
         let table = read_points(alloc, file).ok()?;
         if table.is_empty() {

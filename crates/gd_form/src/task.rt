@@ -1,5 +1,6 @@
 // Flatness as a task over the cells of three faces.
 ghost use Rattle.std.specs.Prelude.{◌≡◌, ◌<◌, ◌≤◌, ◌^◌, length, nat_le, unsigned_abs};
+ghost use Rattle.gd_base.specs.Limits.{TOLERANCE};
 ghost use Rattle.gd_form.specs.Laws.Task.{flat_laws};
 ghost use Rattle.gd_form.specs.FlatTask.{IsFeasible, IsInside, assignment_of, direction_at, questions_of};
 
@@ -19,13 +20,13 @@ const ONE: u64 = 1 << 30;
 pub struct FormTask<'a> {
     pub points: Points<'a>,
     pub tolerance: u32,
-    ghost tolerable: { tolerance ≤ 16000000 },
+    ghost tolerable: { tolerance ≤ TOLERANCE },
 }
 
 /// The flatness of all points of a table, taken as one feature, to a tolerance in units of 0.1 micrometre.
 pub fn flat_task(table: &PointTable, tolerance: u32) -> FormTask<'_>
     requires some { 0 < length table.now.rows }
-    requires tolerance { tolerance ≤ 16000000 }
+    requires tolerance { tolerance ≤ TOLERANCE }
     ensures rows { result.points.table.now.rows ≡ table.now.rows }
     ensures tolerance { result.tolerance ≡ tolerance }
 {

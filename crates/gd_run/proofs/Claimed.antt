@@ -17,7 +17,7 @@ use Rattle.gd_cert.specs.declared.fault.CertFault.{CertFault}
 use Rattle.gd_check.specs.Right.{AreRightBodies, IsRight, IsRightBody, witness_of}
 use Rattle.gd_check.specs.Wrong.{first_wrong}
 use Rattle.gd_form.specs.FlatTask.{IsFeasible, IsInside, assignment_of, direction_at, questions_of}
-use Rattle.gd_form.specs.Flatness.{IsFlat}
+use Rattle.gd_form.specs.Flatness.{IsFlatAlong}
 use Rattle.gd_form.specs.Laws.Task.{flat_centre_in_range, flat_centre_names_place, flat_first_refutes, flat_grid, flat_halves_cover, flat_holds_is_feasible, flat_refuted_is_empty, flat_roots_cover}
 use Rattle.gd_points.proofs.Tables.{table_has_few, table_has_row}
 use Rattle.gd_points.specs.Points.{points}
@@ -38,7 +38,7 @@ use Rattle.gd_search.specs.Verdict.{Accepted, End, IsVerdict, Open, Rejected}
 use Rattle.gd_world.specs.Shelf.{Files}
 
 -- ---- what a verdict of flatness says
-accept_is_flat : (rows : List Row) (tolerance budget level : ℕ) (w : Witness) → IsVerdict (questions_of rows tolerance) budget (Accepted w level) → IsFlat rows tolerance w.root (direction_at w)
+accept_is_flat : (rows : List Row) (tolerance budget level : ℕ) (w : Witness) → IsVerdict (questions_of rows tolerance) budget (Accepted w level) → IsFlatAlong rows tolerance w.root (direction_at w)
 accept_is_flat rows tolerance budget level w verdict =
     (accepts (questions_of rows tolerance) (IsFeasible rows tolerance) (λ v. assignment_of v.root (direction_at v)) (flat_grid rows tolerance) (flat_centre_in_range rows tolerance) (flat_centre_names_place rows tolerance) (flat_holds_is_feasible rows tolerance) budget w level verdict).shown
 

@@ -7,7 +7,7 @@ use Rattle.gd_cert.specs.Certificates.{Body, Accept, Reject, Open, Certificate, 
 use Rattle.gd_cert.specs.Text.{text}
 use Rattle.gd_check.specs.Right.{IsRight, witness_of}
 use Rattle.gd_form.specs.FlatTask.{direction_at, questions_of}
-use Rattle.gd_form.specs.Flatness.{IsFlat}
+use Rattle.gd_form.specs.Flatness.{IsFlatAlong}
 use Rattle.gd_points.specs.Table.{Table}
 use Rattle.gd_points.specs.declared.table.Row.{Row}
 use Rattle.gd_report.specs.Texts.{accept_text, invalid_text, reject_text, valid_text}
@@ -30,7 +30,7 @@ pub record HasTable (files : Files) (name : List ℕ) : Type 0 where
 
 -- along no direction at all are the points flat to the tolerance
 abbrev pub IsFlatNowhere : List Row → ℕ → Type 0
-IsFlatNowhere rows tolerance = (axis : ℕ) (n : V3) → IsFlat rows tolerance axis n → ⊥
+IsFlatNowhere rows tolerance = (axis : ℕ) (n : V3) → IsFlatAlong rows tolerance axis n → ⊥
 
 -- ---- `flat`
 -- an accept that the run printed: the points of the file are flat to the tolerance along the printed direction
@@ -41,7 +41,7 @@ pub record IsAccept (words : List (List ℕ)) (files : Files) (printed : List �
   pub level : ℕ
   pub axis : ℕ
   pub direction : V3
-  pub conforms : IsFlat input.table.rows flat.tolerance axis direction
+  pub conforms : IsFlatAlong input.table.rows flat.tolerance axis direction
   pub text : printed ≡ accept_text level direction
 
 -- a reject that the run printed: the points of the file are flat to the tolerance along no direction
@@ -57,7 +57,7 @@ pub record IsReject (words : List (List ℕ)) (files : Files) (printed : List �
 -- what a group of a certificate says of the points: they are flat along the direction of its witness, or along none, or the
 -- verdict for the budget is open
 abbrev pub SaysOfPoints : List Row → ℕ → ℕ → Body → Type 0
-SaysOfPoints rows tolerance budget (Accept root at) = IsFlat rows tolerance root (direction_at (witness_of root at))
+SaysOfPoints rows tolerance budget (Accept root at) = IsFlatAlong rows tolerance root (direction_at (witness_of root at))
 SaysOfPoints rows tolerance budget (Reject lines) = IsFlatNowhere rows tolerance
 SaysOfPoints rows tolerance budget (Open level undecided spent why lines) =
     IsVerdict (questions_of rows tolerance) budget (verdict.Open (tree (questions_of rows tolerance) level) level undecided spent why)

@@ -7,7 +7,7 @@ use Rattle.gd_dir.specs.Directions.{LeadsAlong}
 use Rattle.gd_form.specs.Laws.Firsts.{above_least, below_greatest}
 use Rattle.gd_form.specs.Laws.Refutations.{dot-difference}
 use Rattle.gd_form.specs.FlatTests.{along, is_within, spread}
-use Rattle.gd_form.specs.Flatness.{IsFlatAcross}
+use Rattle.gd_form.specs.Flatness.{HasZone}
 use Rattle.gd_int.proofs.Comparisons.{AtMost-below, AtMost-scale}
 use Rattle.gd_int.proofs.Orders.{at_most_from_cmp}
 use Rattle.gd_int.specs.Comparisons.{AtMost}
@@ -24,7 +24,7 @@ apart rows n i j d e p q =
     rw dot-difference (omega (arith, ints, a, b))
 
 -- points within the tolerance along a direction are flat across it
-pub within_is_flat : (rows : List Row) (tolerance : ℕ) (n : V3) → is_within rows tolerance n ≡ true → IsFlatAcross rows tolerance n
+pub within_is_flat : (rows : List Row) (tolerance : ℕ) (n : V3) → is_within rows tolerance n ≡ true → HasZone rows tolerance n
 within_is_flat rows tolerance n h = λ i d p j e q.
     let most : AtMost (spread (along n rows)) (pos tolerance) (norm2_of n) = (at_most_from_cmp (spread (along n rows)) (pos tolerance) (norm2_of n)).0 h in
     let near : AtMost (dot_of n (difference (get_or rows i d).at (get_or rows j e).at)) (pos tolerance) (norm2_of n) =

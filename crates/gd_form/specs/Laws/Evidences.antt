@@ -5,6 +5,7 @@ use Rattle.std.proofs.lemmas.Bool.Decides.{nat_tests}
 use Rattle.std.proofs.lemmas.Int.{ints}
 use Rattle.std.proofs.lemmas.List.{length-map}
 use Rattle.std.specs.Ordering.{is_gt, is_le}
+use Rattle.gd_base.specs.Limits.{POINTS}
 use Rattle.gd_cells.specs.Laws.{IsShort}
 use Rattle.gd_cells.specs.declared.cell.Evidence.{Evidence}
 use Rattle.gd_dir.specs.declared.shape.DirBox.{DirBox}
@@ -137,7 +138,7 @@ none_refutes rows tolerance b e h =
     (λ p q. no_others_part rows tolerance b (e.a - 1) (e.b - 1) (point_inside rows e.a p) (point_inside rows e.b q) none)
 
 -- ---- the numbers of the first evidence are below 2^32
-pub first_is_short : (rows : List Row) (tolerance : ℕ) (b : DirBox) (e : Evidence) → 0 < length rows → length rows ≤ 200000 → first_evidence rows tolerance b ≡ Some e → IsShort e
+pub first_is_short : (rows : List Row) (tolerance : ℕ) (b : DirBox) (e : Evidence) → 0 < length rows → length rows ≤ POINTS → first_evidence rows tolerance b ≡ Some e → IsShort e
 first_is_short rows tolerance b e some few =
     let far : farthest b rows < length rows = rw length-map at (greatest_inside (lows b rows) (rw length-map some)) in
     let near : nearest b rows < length rows = rw length-map at (least_inside (highs b rows) (rw length-map some)) in

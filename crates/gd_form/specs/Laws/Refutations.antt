@@ -8,7 +8,7 @@ use Rattle.gd_dir.specs.Directions.{RatioWithin}
 use Rattle.gd_dir.specs.declared.shape.DirBox.{DirBox}
 use Rattle.gd_form.specs.Laws.Evidences.{greater_refuses, refutation}
 use Rattle.gd_form.specs.FlatTests.{first_point, high_along, highs, is_refuted, low_along, lows, most_norm2, scale_hi, scale_lo, square_hi}
-use Rattle.gd_form.specs.Flatness.{IsFlatAcross}
+use Rattle.gd_form.specs.Flatness.{HasZone}
 use Rattle.gd_int.proofs.Comparisons.{AtMost-below, AtMost-longer, AtMost-scale_root, AtMost-unscale, AtMost-unscale_root}
 use Rattle.gd_int.proofs.Integers.{by_sign, mul-add_right, mul-assoc_ℤ, mul-sub_right, mul_comm_ℤ, mul_ge_left, mul_ge_right, mul_le_left, mul_le_mul, mul_le_right, mul_swap_ℤ, square_nonneg, ≤ℤ_trans}
 use Rattle.gd_int.specs.Comparisons.{AtMost}
@@ -108,7 +108,7 @@ within_box b k g t n p q i j h l a =
     AtMost-unscale_root g t (most_norm2 b) k i longer
 
 -- no direction across which the points are flat lies in a refuted box
-pub refuted_is_empty : (rows : List Row) (tolerance : ℕ) (b : DirBox) (e : Evidence) (k : ℤ) (n : V3) → is_refuted rows tolerance b e ≡ true → pos 0 <ℤ k → HoldsDirection b k n → IsFlatAcross rows tolerance n → ⊥
+pub refuted_is_empty : (rows : List Row) (tolerance : ℕ) (b : DirBox) (e : Evidence) (k : ℤ) (n : V3) → is_refuted rows tolerance b e ≡ true → pos 0 <ℤ k → HoldsDirection b k n → HasZone rows tolerance n → ⊥
 refuted_is_empty rows tolerance b e k n refuted i h flat =
     let r = refutation rows tolerance b e refuted in
     let d : Row = record { feature = 0; group = 0; at = n } in

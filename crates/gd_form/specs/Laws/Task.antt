@@ -4,6 +4,7 @@ use Rattle.std.proofs.lemmas.List.Elements.{All-cons, All-replicate}
 use Rattle.std.proofs.lemmas.Bool.{false≢true}
 use Rattle.std.proofs.lemmas.Bool.Decides.{nat_tests}
 use Rattle.std.proofs.lemmas.Int.{ints}
+use Rattle.gd_base.specs.Limits.{POINTS}
 use Rattle.gd_cells.specs.Witnesses.{zeros_behind}
 use Rattle.gd_cells.proofs.Cells.{halvings_few}
 use Rattle.gd_cells.specs.Grid.{halvings, MOST_DIMS}
@@ -54,7 +55,7 @@ flat_first_refutes rows tolerance some c e cell first = first_refutes rows toler
 flat_none_refutes : (rows : List Row) (tolerance : ℕ) → NoneRefutes (questions_of rows tolerance)
 flat_none_refutes rows tolerance c e cell none = none_refutes rows tolerance (box_of c) e none
 
-flat_first_is_short : (rows : List Row) (tolerance : ℕ) → 0 < length rows → length rows ≤ 200000 → FirstIsShort (questions_of rows tolerance)
+flat_first_is_short : (rows : List Row) (tolerance : ℕ) → 0 < length rows → length rows ≤ POINTS → FirstIsShort (questions_of rows tolerance)
 flat_first_is_short rows tolerance some few c e cell first = first_is_short rows tolerance (box_of c) e some few first
 
 flat_refuted_is_empty : (rows : List Row) (tolerance : ℕ) → RefutedIsEmpty (questions_of rows tolerance) (IsFeasible rows tolerance) IsInside
@@ -127,7 +128,7 @@ flat_holds_is_feasible rows tolerance w in_range holds =
     }
 
 -- ---- all of them
-pub flat_laws : (rows : List Row) (tolerance : ℕ) → 0 < length rows → length rows ≤ 200000 → Laws (questions_of rows tolerance) (IsFeasible rows tolerance) IsInside (λ w. assignment_of w.root (direction_at w))
+pub flat_laws : (rows : List Row) (tolerance : ℕ) → 0 < length rows → length rows ≤ POINTS → Laws (questions_of rows tolerance) (IsFeasible rows tolerance) IsInside (λ w. assignment_of w.root (direction_at w))
 flat_laws rows tolerance some few = record {
   is_grid = faces_grid;
   roots_cover = roots_cover rows tolerance;
