@@ -19,7 +19,7 @@ use Rattle.gd_run.specs.Inputs.{Given, IsRefusal}
 use Rattle.gd_run.specs.Runs.{IsAnswerOf}
 use Rattle.gd_run.specs.Views.{ask_of, flat_of}
 use Rattle.gd_run.specs.declared.flat.FlatCommand.{FlatCommand}
-use Rattle.gd_search.specs.Verdict.{End, Accepted, Rejected, Open}
+use Rattle.gd_verdict.specs.Verdict.{End, Accepted, Rejected, Open}
 
 -- ---- five words, as a pattern of a slice takes them apart
 pub five_words : {X : Type 0} (xs : List X) (a b c d e : X) → length xs ≡ 5 → a ≡ get_or xs 0 a → b ≡ get_or xs 1 b → c ≡ get_or xs 2 c → d ≡ get_or xs 3 d → e ≡ get_or xs 4 e → xs ≡ a ∷ b ∷ c ∷ d ∷ e ∷ []
@@ -43,7 +43,7 @@ asks_flat rest None h = λ ask. elim ask as (λ a. IsAskOf (codes "flat" ∷ res
 low_status : (e : End) → status_of (said_of_end e).ending ≤ 2
 low_status (Accepted w l) = omega arith
 low_status (Rejected n lines) = omega arith
-low_status (Open lines l u s why) = omega arith
+low_status (Open lines counts) = omega arith
 
 named_store : (word : Option (List ℕ)) (bytes : List ℕ) → All (λ (s : Store). word ≡ Some s.0) (stores_to word bytes)
 named_store None bytes = All-nil (λ (s : Store). None ≡ Some s.0)

@@ -14,11 +14,11 @@ use Rattle.gd_cert.specs.Certificates as certificates
 use Rattle.gd_cert.specs.Reading.{reading}
 use Rattle.gd_cert.specs.Text.{text}
 use Rattle.gd_cert.specs.declared.fault.CertFault.{CertFault}
-use Rattle.gd_check.specs.Right.{AreRightBodies, IsRight, IsRightBody, witness_of}
+use Rattle.gd_check.specs.Right.{AreRightBodies, IsRight, IsRightBody}
 use Rattle.gd_check.specs.Wrong.{first_wrong}
 use Rattle.gd_form.specs.FlatTask.{IsFeasible, IsInside, assignment_of, direction_at, questions_of}
 use Rattle.gd_form.specs.Flatness.{IsFlatAlong}
-use Rattle.gd_form.specs.Laws.Task.{flat_centre_in_range, flat_centre_names_place, flat_first_refutes, flat_grid, flat_halves_cover, flat_holds_is_feasible, flat_refuted_is_empty, flat_roots_cover}
+use Rattle.gd_form.specs.Laws.Task.{flat_laws}
 use Rattle.gd_points.proofs.Tables.{table_has_few, table_has_row}
 use Rattle.gd_points.specs.Points.{points}
 use Rattle.gd_points.specs.Table.{Table}
@@ -33,18 +33,16 @@ use Rattle.gd_run.specs.Claims.{HasTable, IsAccept, IsFlatNowhere, IsInvalid, Is
 use Rattle.gd_run.specs.FlatCommand.{Flat, IsFlatAnswer, said_of_end}
 use Rattle.gd_run.specs.Inputs.{Given, and_reads, certificate_file, is_long, nothing_given, points_file, with_certificate, with_points}
 use Rattle.gd_run.specs.Runs.{IsAnswer, IsAnswerFrom, IsAnswerTo}
-use Rattle.gd_search.proofs.Meant.{accepts, rejects}
-use Rattle.gd_search.specs.Verdict.{Accepted, End, IsVerdict, Open, Rejected}
+use Rattle.gd_verdict.proofs.Meant.{accepts, rejects}
+use Rattle.gd_verdict.specs.Verdict.{Accepted, End, IsVerdict, Open, Rejected}
 use Rattle.gd_world.specs.Shelf.{Files}
 
 -- ---- what a verdict of flatness says
-accept_is_flat : (rows : List Row) (tolerance budget level : ℕ) (w : Witness) → IsVerdict (questions_of rows tolerance) budget (Accepted w level) → IsFlatAlong rows tolerance w.root (direction_at w)
-accept_is_flat rows tolerance budget level w verdict =
-    (accepts (questions_of rows tolerance) (IsFeasible rows tolerance) (λ v. assignment_of v.root (direction_at v)) (flat_grid rows tolerance) (flat_centre_in_range rows tolerance) (flat_centre_names_place rows tolerance) (flat_holds_is_feasible rows tolerance) budget w level verdict).shown
+accept_is_flat : (rows : List Row) (tolerance : ℕ) → 0 < length rows → length rows ≤ POINTS → (budget level : ℕ) (w : Witness) → IsVerdict (questions_of rows tolerance) budget (Accepted w level) → IsFlatAlong rows tolerance w.root (direction_at w)
+accept_is_flat rows tolerance some few budget level w verdict = (accepts (flat_laws rows tolerance some few) budget w level verdict).shown
 
-reject_is_flat_nowhere : (rows : List Row) (tolerance budget leaves : ℕ) (tree : List Node) → 0 < length rows → IsVerdict (questions_of rows tolerance) budget (Rejected leaves tree) → IsFlatNowhere rows tolerance
-reject_is_flat_nowhere rows tolerance budget leaves tree some verdict axis n flat =
-    rejects (questions_of rows tolerance) (IsFeasible rows tolerance) IsInside (flat_roots_cover rows tolerance) (flat_halves_cover rows tolerance) (flat_first_refutes rows tolerance some) (flat_refuted_is_empty rows tolerance) budget leaves tree verdict (assignment_of axis n) flat
+reject_is_flat_nowhere : (rows : List Row) (tolerance : ℕ) → 0 < length rows → length rows ≤ POINTS → (budget leaves : ℕ) (tree : List Node) → IsVerdict (questions_of rows tolerance) budget (Rejected leaves tree) → IsFlatNowhere rows tolerance
+reject_is_flat_nowhere rows tolerance some few budget leaves tree verdict flat = rejects (flat_laws rows tolerance some few) budget leaves tree verdict (assignment_of flat.axis flat.direction) flat.along
 
 -- ---- the certificate of a verdict
 pub end_is_valid : (rows : List Row) (tolerance budget : ℕ) (e : End) → 0 < length rows → length rows ≤ POINTS → budget ≤ BUDGET → IsVerdict (questions_of rows tolerance) budget e
@@ -59,10 +57,10 @@ end_is_valid rows tolerance budget e some few small verdict = record {
 }
 
 -- ---- what a check says
-says_of : (rows : List Row) (tolerance budget : ℕ) (b : Body) → IsRightBody (questions_of rows tolerance) budget b → SaysOfPoints rows tolerance budget b
-says_of rows tolerance budget (Accept root at) right = flat_true rows tolerance budget (Accept root at) right
-says_of rows tolerance budget (Reject lines) right = λ axis n flat. flat_true rows tolerance budget (Reject lines) right (assignment_of axis n) flat
-says_of rows tolerance budget (certificates.Open level u s why lines) right = flat_true rows tolerance budget (certificates.Open level u s why lines) right
+says_of : (rows : List Row) (tolerance : ℕ) → 0 < length rows → length rows ≤ POINTS → (budget : ℕ) (b : Body) → IsRightBody (questions_of rows tolerance) budget b → SaysOfPoints rows tolerance budget b
+says_of rows tolerance some few budget (Accept root at) right = flat_true rows tolerance some few budget (Accept root at) right
+says_of rows tolerance some few budget (Reject lines) right = λ flat. flat_true rows tolerance some few budget (Reject lines) right (assignment_of flat.axis flat.direction) flat.along
+says_of rows tolerance some few budget (certificates.Open counts lines) right = flat_true rows tolerance some few budget (certificates.Open counts lines) right
 
 -- the one group of a right certificate of one task
 record OneGroup (q : Questions) (c : Certificate) : Type 0 where
@@ -89,6 +87,12 @@ short_value false fault read x h = (refl, h)
 
 pub table_read : (bytes : List ℕ) (table : Table) → points_file bytes ≡ Ok table → points bytes ≡ Ok table
 table_read bytes table read = (short_value (is_long bytes) (record { code = 17; row = 0; column = 0 }) (points bytes) table read).1
+
+some_of : {files : Files} {name : List ℕ} (input : HasTable files name) → 0 < length input.table.rows
+some_of input = table_has_row input.bytes input.table (table_read input.bytes input.table input.read)
+
+few_of : {files : Files} {name : List ℕ} (input : HasTable files name) → length input.table.rows ≤ POINTS
+few_of input = table_has_few input.bytes input.table (table_read input.bytes input.table input.read)
 
 record CertificateRead (bytes : List ℕ) (c : Certificate) : Type 0 where
   short : length bytes ≤ FILE_BYTES
@@ -195,25 +199,25 @@ valid_is_read q bytes v =
     let read : reading bytes ≡ Ok v.certificate = ap reading v.spelled ∙ reading_again v.certificate v.fits in
     rw (short_file bytes v.short) read
 
-valid_is_said : (rows : List Row) (tolerance : ℕ) → 0 < length rows → (bytes : List ℕ) (v : IsValidFor (questions_of rows tolerance) bytes) → status_of (said_of_certificate (questions_of rows tolerance ∷ []) v.certificate).ending ≡ 0
-valid_is_said rows tolerance some bytes v =
-    let none : first_wrong (questions_of rows tolerance ∷ []) v.certificate ≡ None = right_flat rows tolerance some v.certificate v.right in
+valid_is_said : (rows : List Row) (tolerance : ℕ) → 0 < length rows → length rows ≤ POINTS → (bytes : List ℕ) (v : IsValidFor (questions_of rows tolerance) bytes) → status_of (said_of_certificate (questions_of rows tolerance ∷ []) v.certificate).ending ≡ 0
+valid_is_said rows tolerance some few bytes v =
+    let none : first_wrong (questions_of rows tolerance ∷ []) v.certificate ≡ None = right_flat rows tolerance some few v.certificate v.right in
     rw (v.plain, none) refl
 
 same_value : {X F : Type 0} (r : Result X F) (x y : X) → r ≡ Ok x → r ≡ Ok y → x ≡ y
 same_value (Ok z) x y h i = cc
 same_value (Err f) x y h i = cc
 
-true_for : (rows : List Row) (tolerance : ℕ) → 0 < length rows → (bytes : List ℕ) (c : Certificate) → CertificateRead bytes c → IsSaidValid (questions_of rows tolerance ∷ []) c → IsTrueFor rows tolerance bytes
-true_for rows tolerance some bytes c read said =
+true_for : (rows : List Row) (tolerance : ℕ) → 0 < length rows → length rows ≤ POINTS → (bytes : List ℕ) (c : Certificate) → CertificateRead bytes c → IsSaidValid (questions_of rows tolerance ∷ []) c → IsTrueFor rows tolerance bytes
+true_for rows tolerance some few bytes c read said =
     let takes = reading_takes bytes c read.read in
-    let right : IsRight (questions_of rows tolerance ∷ []) c = flat_right rows tolerance some c said.none in
+    let right : IsRight (questions_of rows tolerance ∷ []) c = flat_right rows tolerance some few c said.none in
     let one : OneGroup (questions_of rows tolerance) c = one_group (questions_of rows tolerance) c c.groups refl right.groups in
     record {
       valid = record { short = read.short; certificate = c; fits = takes.0; spelled = takes.1; plain = said.plain; right = right };
       group = one.group;
       only = one.only;
-      says = says_of rows tolerance c.share one.group one.right;
+      says = says_of rows tolerance some few c.share one.group one.right;
     }
 
 -- ---- what an answer says, by its status
@@ -233,7 +237,7 @@ verdict_means : (words : List (List ℕ)) (files : Files) (flat : Flat) (input :
 verdict_means words files flat input asks (Accepted w level) verdict said is =
     let status : status_of said.ending ≡ 0 = ap (λ (s : Said). status_of s.ending) is in
     record {
-      zero = λ h. inl (record { flat = flat; asks = asks; input = input; level = level; axis = w.root; direction = direction_at w; conforms = accept_is_flat input.table.rows flat.tolerance flat.budget level w verdict; text = ap (λ (s : Said). s.text) is });
+      zero = λ h. inl (record { flat = flat; asks = asks; input = input; level = level; axis = w.root; direction = direction_at w; conforms = accept_is_flat input.table.rows flat.tolerance (some_of input) (few_of input) flat.budget level w verdict; text = ap (λ (s : Said). s.text) is });
       one = λ h. absurd (omega (arith, h, status));
       eight = λ h. absurd (omega (arith, h, status));
     }
@@ -241,10 +245,10 @@ verdict_means words files flat input asks (Rejected leaves tree) verdict said is
     let status : status_of said.ending ≡ 1 = ap (λ (s : Said). status_of s.ending) is in
     record {
       zero = λ h. absurd (omega (arith, h, status));
-      one = λ h. record { flat = flat; asks = asks; input = input; leaves = leaves; none = reject_is_flat_nowhere input.table.rows flat.tolerance flat.budget leaves tree (table_has_row input.bytes input.table (table_read input.bytes input.table input.read)) verdict; text = ap (λ (s : Said). s.text) is };
+      one = λ h. record { flat = flat; asks = asks; input = input; leaves = leaves; none = reject_is_flat_nowhere input.table.rows flat.tolerance (some_of input) (few_of input) flat.budget leaves tree verdict; text = ap (λ (s : Said). s.text) is };
       eight = λ h. absurd (omega (arith, h, status));
     }
-verdict_means words files flat input asks (Open tree level u s why) verdict said is =
+verdict_means words files flat input asks (Open tree counts) verdict said is =
     means_nothing words files said 2 (ap (λ (s : Said). status_of s.ending) is) (λ h. omega (arith, h)) (λ h. omega (arith, h)) (λ h. omega (arith, h))
 
 flat_means : (words : List (List ℕ)) (files : Files) (flat : Flat) → Asks words (ForFlat flat) → (a : Answer) → FlatRead files flat a → Means words files a.said
@@ -255,13 +259,14 @@ check_means : (words : List (List ℕ)) (files : Files) (check : Check) → Asks
 check_means words files check asks a (Decided input bytes held c read is) =
     let rows : List Row = input.table.rows in
     let qs : List Questions = questions_of rows check.tolerance ∷ [] in
-    let some = table_has_row input.bytes input.table (table_read input.bytes input.table input.read) in
+    let some = some_of input in
+    let few = few_of input in
     let status : status_of a.said.ending ≡ status_of (said_of_certificate qs c).ending = ap (λ (b : Answer). status_of b.said.ending) is in
     let printed : a.said.text ≡ (said_of_certificate qs c).text = ap (λ (b : Answer). b.said.text) is in
     record {
       zero = λ h.
           let said : IsSaidValid qs c = said_valid qs c c.heading refl (sym status ∙ h) in
-          inr (record { check = check; asks = asks; input = input; bytes = bytes; held = held; true = true_for rows check.tolerance some bytes c (certificate_read bytes c read) said; text = printed ∙ said.text });
+          inr (record { check = check; asks = asks; input = input; bytes = bytes; held = held; true = true_for rows check.tolerance some few bytes c (certificate_read bytes c read) said; text = printed ∙ said.text });
       one = λ h. absurd (under_not_one qs c.heading c (sym status ∙ h));
       eight = λ h.
           let t : StatesLine (said_of_certificate qs c) = under_states qs c.heading c (sym status ∙ h) in
@@ -273,7 +278,7 @@ check_means words files check asks a (Decided input bytes held c read is) =
             held = held;
             wrong = λ v.
                 let same : v.certificate ≡ c = same_value (certificate_file bytes) v.certificate c (valid_is_read (questions_of rows check.tolerance) bytes v) read in
-                let zero : status_of (said_of_certificate qs c).ending ≡ 0 = subst (λ d. status_of (said_of_certificate qs d).ending ≡ 0) same (valid_is_said rows check.tolerance some bytes v) in
+                let zero : status_of (said_of_certificate qs c).ending ≡ 0 = subst (λ d. status_of (said_of_certificate qs d).ending ≡ 0) same (valid_is_said rows check.tolerance some few bytes v) in
                 absurd (omega (arith, zero, status, h));
             line = t.line;
             code = t.code;

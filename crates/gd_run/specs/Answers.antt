@@ -6,7 +6,7 @@ use Rattle.gd_cert.specs.declared.fault.CertFault.{CertFault}
 use Rattle.gd_check.specs.Written.{body_of_end}
 use Rattle.gd_check.specs.Wrong.{first_wrong}
 use Rattle.gd_report.specs.Said.{Said, invalid, valid}
-use Rattle.gd_search.specs.Verdict.{End}
+use Rattle.gd_verdict.specs.Verdict.{End}
 
 -- a name and the bytes that it is to hold
 abbrev pub Store : Type 0

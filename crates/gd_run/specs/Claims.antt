@@ -5,9 +5,10 @@ use Rattle.gd_cells.specs.Meaning.{Questions}
 use Rattle.gd_cert.specs.Bounds.{IsInBounds}
 use Rattle.gd_cert.specs.Certificates.{Body, Accept, Reject, Open, Certificate, Plain}
 use Rattle.gd_cert.specs.Text.{text}
-use Rattle.gd_check.specs.Right.{IsRight, witness_of}
+use Rattle.gd_cells.specs.Witnesses.{witness_of}
+use Rattle.gd_check.specs.Right.{IsRight}
 use Rattle.gd_form.specs.FlatTask.{direction_at, questions_of}
-use Rattle.gd_form.specs.Flatness.{IsFlatAlong}
+use Rattle.gd_form.specs.Flatness.{IsFlat, IsFlatAlong}
 use Rattle.gd_points.specs.Table.{Table}
 use Rattle.gd_points.specs.declared.table.Row.{Row}
 use Rattle.gd_report.specs.Texts.{accept_text, invalid_text, reject_text, valid_text}
@@ -15,9 +16,9 @@ use Rattle.gd_run.specs.Asks.{Asks, ForCheck, ForFlat}
 use Rattle.gd_run.specs.CheckCommand.{Check}
 use Rattle.gd_run.specs.FlatCommand.{Flat}
 use Rattle.gd_run.specs.Inputs.{points_file}
-use Rattle.gd_search.specs.Trees.{tree}
-use Rattle.gd_search.specs.Verdict.{IsVerdict}
-use Rattle.gd_search.specs.Verdict as verdict
+use Rattle.gd_verdict.specs.Trees.{tree}
+use Rattle.gd_verdict.specs.Verdict.{IsVerdict}
+use Rattle.gd_verdict.specs.Verdict as verdict
 use Rattle.gd_vec.specs.declared.vector.V3.{V3}
 use Rattle.gd_world.specs.Shelf.{Files, IsWord, Word}
 
@@ -30,7 +31,7 @@ pub record HasTable (files : Files) (name : List ℕ) : Type 0 where
 
 -- along no direction at all are the points flat to the tolerance
 abbrev pub IsFlatNowhere : List Row → ℕ → Type 0
-IsFlatNowhere rows tolerance = (axis : ℕ) (n : V3) → IsFlatAlong rows tolerance axis n → ⊥
+IsFlatNowhere rows tolerance = IsFlat rows tolerance → ⊥
 
 -- ---- `flat`
 -- an accept that the run printed: the points of the file are flat to the tolerance along the printed direction
@@ -59,8 +60,8 @@ pub record IsReject (words : List (List ℕ)) (files : Files) (printed : List �
 abbrev pub SaysOfPoints : List Row → ℕ → ℕ → Body → Type 0
 SaysOfPoints rows tolerance budget (Accept root at) = IsFlatAlong rows tolerance root (direction_at (witness_of root at))
 SaysOfPoints rows tolerance budget (Reject lines) = IsFlatNowhere rows tolerance
-SaysOfPoints rows tolerance budget (Open level undecided spent why lines) =
-    IsVerdict (questions_of rows tolerance) budget (verdict.Open (tree (questions_of rows tolerance) level) level undecided spent why)
+SaysOfPoints rows tolerance budget (Open counts lines) =
+    IsVerdict (questions_of rows tolerance) budget (verdict.Open (tree (questions_of rows tolerance) counts.level) counts)
 
 -- the bytes are a certificate of the written requirement of a task, and it is right
 pub record IsValidFor (q : Questions) (bytes : List ℕ) : Type 0 where

@@ -8,7 +8,7 @@ use Rattle.gd_report.specs.Said.{Said, accepted, opened, rejected}
 use Rattle.gd_run.specs.Answers.{Answer, certificate_of_end, stores_to}
 use Rattle.gd_run.specs.Inputs.{Given, Input}
 use Rattle.gd_run.specs.declared.inputs.InputKind.TheVariants as kind
-use Rattle.gd_search.specs.Verdict.{End, Accepted, Rejected, Open, IsVerdict}
+use Rattle.gd_verdict.specs.Verdict.{End, Accepted, Rejected, Open, IsVerdict}
 
 -- the word of a points file, a tolerance in units, a budget, and the word of a certificate where one is wanted
 pub record Flat : Type 0 where
@@ -34,7 +34,7 @@ flat_inputs flat = record { kind = kind.Points; word = flat.points } ∷ []
 abbrev pub said_of_end : End → Said
 said_of_end (Accepted witness level) = accepted level (direction_at witness)
 said_of_end (Rejected leaves tree) = rejected leaves
-said_of_end (Open tree level undecided spent why) = opened (record { level = level; undecided = undecided; spent = spent; reason = why })
+said_of_end (Open tree counts) = opened counts
 
 -- the answer for a table: what is said of the verdict, and its certificate where one is wanted
 abbrev pub IsFlatAnswer : Flat → Table → Answer → Type 0

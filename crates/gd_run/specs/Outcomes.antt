@@ -8,4 +8,4 @@ use Rattle.gd_search.specs.declared.outcome.Outcome.TheVariants.{Accept, Reject,
 abbrev pub IsPrintable : Outcome → Type 0
 IsPrintable (Accept witness level) = is_in_range witness ≡ true
 IsPrintable (Reject tree) = Unit {0}
-IsPrintable (StillOpen tree level undecided spent why) = Unit {0}
+IsPrintable (StillOpen tree counts) = Unit {0}

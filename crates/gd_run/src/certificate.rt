@@ -7,7 +7,7 @@ ghost use Rattle.gd_run.specs.Answers.{certificate_of_end};
 ghost use Rattle.gd_search.specs.Outcomes.{end_of};
 
 use gd_base::Memory;
-use gd_cells::{Task, Witness, show_grid};
+use gd_cells::{Task, Witness, show_laws};
 use gd_cert::{Cert, CertBody, CertGroup, Head, write_cert};
 use gd_search::Outcome;
 use std::alloc::Global;
@@ -17,9 +17,9 @@ const FIRST_GROUP: u32 = 5;
 
 // The numbers of a witness that the task has.
 fn numbers_of<T: Task>(alloc: Global, task: &T, witness: &Witness) -> Result<Vec<i64>, Memory>
-    ensures { IfOk result (λ v. v.items ≡ take (T.questions task.now).numbers witness.now.at) }
+    ensures { IfOk result (λ v. v.items ≡ take (T.questions task.now).grid.numbers witness.now.at) }
 {
-    show_grid(task);
+    show_laws::<T>();
     let numbers = task.numbers() as usize;
     Ok(Vec::from_slice(alloc, &witness.at[..numbers])?)
 }
@@ -34,19 +34,7 @@ fn body_of_outcome<T: Task>(alloc: Global, task: &T, outcome: Outcome) -> Result
             at: numbers_of(alloc, task, &witness)?,
         }),
         Outcome::Reject { tree } => Ok(CertBody::Reject { tree }),
-        Outcome::StillOpen {
-            tree,
-            level,
-            undecided,
-            spent,
-            reason,
-        } => Ok(CertBody::StillOpen {
-            level,
-            undecided,
-            spent,
-            reason,
-            tree,
-        }),
+        Outcome::StillOpen { tree, counts } => Ok(CertBody::StillOpen { counts, tree }),
     }
 }
 

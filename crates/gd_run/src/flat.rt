@@ -12,7 +12,7 @@ use crate::certificate::certificate_text;
 use crate::inputs::{Input, InputKind};
 use crate::report::{NamedFile, Report};
 use gd_base::limits::{BUDGET, TOLERANCE};
-use gd_base::{Counts, Memory, plain_number};
+use gd_base::{Memory, plain_number};
 use gd_cells::Witness;
 use gd_dir::direction;
 use gd_form::flat_task;
@@ -116,20 +116,6 @@ fn outcome_line(alloc: Global, outcome: &Outcome) -> Result<Line, AllocError>
     match outcome {
         Outcome::Accept { witness, level } => { accept_line(alloc, *level, &direction_at(witness)) }
         Outcome::Reject { tree } => reject_line(alloc, leaves(tree)),
-        Outcome::StillOpen {
-            level,
-            undecided,
-            spent,
-            reason,
-            ..
-        } => open_line(
-            alloc,
-            Counts {
-                level: *level,
-                undecided: *undecided,
-                spent: *spent,
-                reason: *reason,
-            },
-        ),
+        Outcome::StillOpen { counts, .. } => open_line(alloc, *counts),
     }
 }
