@@ -14,4 +14,3 @@ seen f = record { name = f.name.now; group = f.group.now; x = f.x.now; y = f.y.n
 
 abbrev pub shown : Table → PointRead → Point
 shown t p = record { name = name_in t.names p.name; group = p.group; at = p.at }
-
