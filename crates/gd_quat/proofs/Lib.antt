@@ -1,0 +1,3 @@
+pub mod KnownValues
+pub mod Polynomials
+pub mod Rigid
