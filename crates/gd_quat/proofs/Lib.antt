@@ -1,3 +1,6 @@
+pub mod Encloses
 pub mod KnownValues
 pub mod Polynomials
 pub mod Rigid
+pub mod Sizes
+pub mod Widths

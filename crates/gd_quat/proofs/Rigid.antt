@@ -8,7 +8,7 @@ use Rattle.gd_quat.specs.Rotations.{Matrix, Rotation, applied, matrix_of, norm_o
 use Rattle.gd_vec.specs.Vector.{dot_of}
 use Rattle.gd_vec.specs.declared.vector.V3.{V3}
 
-size-square : (z : ℤ) → pos (unsigned_abs z * unsigned_abs z) ≡ z *ℤ z
+pub size-square : (z : ℤ) → pos (unsigned_abs z * unsigned_abs z) ≡ z *ℤ z
 size-square (pos n) = omega (arith, ints)
 size-square (negsuc n) = omega (arith, ints)
 

@@ -99,3 +99,9 @@ pub record MatrixWidth (w : ℕ) (b : MatrixBox) : Type 0 where
   pub x : VectorWidth w b.x
   pub y : VectorWidth w b.y
   pub z : VectorWidth w b.z
+
+-- where the entries of a matrix are at most w wide, a turned vector's entry, less 2 for the rounding, is at most as wide as w times the sum of v's sizes over 2^14
+pub record TurnedWidth (w : ℕ) (v : V3) (r : VecBox) : Type 0 where
+  pub x : ((width_of r.x -ℤ pos 2) *ℤ pos (2 ^ 14)) ≤ℤ (pos w *ℤ norm_sum_of v)
+  pub y : ((width_of r.y -ℤ pos 2) *ℤ pos (2 ^ 14)) ≤ℤ (pos w *ℤ norm_sum_of v)
+  pub z : ((width_of r.z -ℤ pos 2) *ℤ pos (2 ^ 14)) ≤ℤ (pos w *ℤ norm_sum_of v)

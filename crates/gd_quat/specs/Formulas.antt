@@ -38,18 +38,18 @@ abbrev pub narrowed : Ends → ℕ → Ends
 narrowed a bits = record { lo = narrow_lo a.lo bits; hi = narrow_hi a.hi bits }
 
 -- ---- the matrix
--- a + b + c + d, and a + b - c - d
-unfoldable pub total : Ends → Ends → Ends → Ends → Ends
-total a b c d = sum (sum (sum a b) c) d
+-- a + b + c + d, and a + b - c - d: nothing is rounded
+abbrev pub total : Ends → Ends → Ends → Ends → Ends
+total a b c d = sum (sum a b) (sum c d)
 
-unfoldable pub balance : Ends → Ends → Ends → Ends → Ends
-balance a b c d = difference (difference (sum a b) c) d
+abbrev pub balance : Ends → Ends → Ends → Ends → Ends
+balance a b c d = difference (sum a b) (sum c d)
 
 -- 2 (a + b), and 2 (a - b)
-unfoldable pub twice_sum : Ends → Ends → Ends
+abbrev pub twice_sum : Ends → Ends → Ends
 twice_sum a b = multiple (sum a b) (pos 2)
 
-unfoldable pub twice_difference : Ends → Ends → Ends
+abbrev pub twice_difference : Ends → Ends → Ends
 twice_difference a b = multiple (difference a b) (pos 2)
 
 -- the ends of four components
@@ -116,8 +116,11 @@ matrix_formula q = record {
 
 -- ---- a turned vector, and an image
 -- a row times a vector, with 14 bits fewer
-unfoldable pub row_formula : VectorEnds → V3 → Ends
-row_formula m v = narrowed (sum (sum (multiple m.x v.x) (multiple m.y v.y)) (multiple m.z v.z)) 14
+abbrev pub row_sum_formula : VectorEnds → V3 → Ends
+row_sum_formula m v = sum (sum (multiple m.x v.x) (multiple m.y v.y)) (multiple m.z v.z)
+
+abbrev pub row_formula : VectorEnds → V3 → Ends
+row_formula m v = narrowed (row_sum_formula m v) 14
 
 abbrev pub turned_formula : MatrixEnds → V3 → VectorEnds
 turned_formula m v = record { x = row_formula m.x v; y = row_formula m.y v; z = row_formula m.z v }
