@@ -11,8 +11,9 @@ use Rattle.gd_interval.specs.Interval.{Inside}
 use Rattle.gd_interval.specs.declared.iv.Iv.{Iv}
 use Rattle.gd_quat.proofs.Polynomials.{Poly, var, num, ◌⊕◌, ◌⊖◌, ◌⊗◌, equal}
 use Rattle.gd_quat.proofs.Rigid.{norm-is, pa, pb, pc, pd, size-square, squares, two, xx, xy, xz, yx, yy, yz, zx, zy, zz, pn}
-use Rattle.gd_quat.specs.Boxes.{EnclosesMatrix, EnclosesTurned, HoldsMatrix, HoldsRotation, HoldsVector, IsOne, IsRotationBox, matrix_times}
-use Rattle.gd_quat.specs.Formulas.{Ends, MatrixEnds, RotationEnds, VectorEnds, balance, difference, ends, multiple, product, square, sum, matrix_ends, matrix_formula, norm_ends, numerator_ends, rotation_ends, quotient, row_formula, row_sum_formula, turned_formula, twice_difference, twice_sum, vector_ends}
+use Rattle.gd_quat.specs.Boxes.{EnclosesImages, EnclosesMatrix, EnclosesMoved, EnclosesTurned, HoldsMatrix, HoldsRotation, HoldsVector, IsOne, IsRotationBox, matrix_times}
+use Rattle.gd_quat.specs.Formulas.{Ends, MatrixEnds, RotationEnds, VectorEnds, balance, difference, ends, multiple, product, square, sum, matrix_ends, matrix_formula, moved_formula, norm_ends, numerator_ends, rotation_ends, quotient, row_formula, row_sum_formula, turned_formula, twice_difference, twice_sum, vector_ends}
+use Rattle.gd_quat.specs.Placements.{times}
 use Rattle.gd_quat.specs.Rotations.{IsRotation, Matrix, Rotation, applied, matrix_of, norm_of}
 use Rattle.gd_quat.specs.declared.shape.MatrixBox.{MatrixBox}
 use Rattle.gd_quat.specs.declared.shape.RotationBox.{RotationBox}
@@ -217,3 +218,48 @@ holds-turned m v r d k e h = record {
   y = row-held m.y v r.y k e.y (ap (λ z. z.y) d) h.y;
   z = row-held m.z v r.z k e.z (ap (λ z. z.z) d) h.z;
 }
+
+-- ---- a moved vector
+pub holds-moved : (a b r : VecBox) → vector_ends r ≡ moved_formula (vector_ends a) (vector_ends b) → EnclosesMoved a b r
+holds-moved a b r e k v w h i = record {
+  x = with-ends r.x (sum (ends a.x) (ends b.x)) k (v.x +ℤ w.x) (ap (λ z. z.x) e) (sum_inside a.x.lo a.x.hi b.x.lo b.x.hi k v.x w.x h.x i.x);
+  y = with-ends r.y (sum (ends a.y) (ends b.y)) k (v.y +ℤ w.y) (ap (λ z. z.y) e) (sum_inside a.y.lo a.y.hi b.y.lo b.y.hi k v.y w.y h.y i.y);
+  z = with-ends r.z (sum (ends a.z) (ends b.z)) k (v.z +ℤ w.z) (ap (λ z. z.z) e) (sum_inside a.z.lo a.z.hi b.z.lo b.z.hi k v.z w.z h.z i.z);
+}
+
+-- ---- an image: the matrix over N in 2^-30 and the translation over S in 2^-16 give the image over N S in 2^-16
+-- 2^14 is left out of both
+cut : (lo hi x : ℤ) (n : ℕ) → Inside lo hi (n * 2 ^ 14) (x *ℤ pos (2 ^ 14)) → Inside lo hi n x
+cut lo hi x n h =
+    let e : (z : ℤ) → z *ℤ pos (n * 2 ^ 14) ≡ (z *ℤ pos n) *ℤ pos (2 ^ 14) = λ z. equal (z ∷ pos n ∷ pos (2 ^ 14) ∷ []) (var 0 ⊗ (var 1 ⊗ var 2)) ((var 0 ⊗ var 1) ⊗ var 2) refl in (
+      mul_le_out (lo *ℤ pos n) x (pos (2 ^ 14)) (omega (arith, ints)) (subst (λ z. z ≤ℤ (x *ℤ pos (2 ^ 14))) (e lo) h.0),
+      mul_le_out x (hi *ℤ pos n) (pos (2 ^ 14)) (omega (arith, ints)) (subst (λ z. (x *ℤ pos (2 ^ 14)) ≤ℤ z) (e hi) h.1),
+    )
+
+-- one coordinate: u is the turned one in 2^-30, and c the sum of products of the exact row
+coordinate : (turned by r : Iv) (n s : ℕ) (m : V3) (v : V3) (t : ℤ) → ends r ≡ sum (ends turned) (ends by) → Inside turned.lo turned.hi (n * 2 ^ 14) (dot_of (times (pos (2 ^ 30)) m) v)
+    → Inside by.lo by.hi s (pos (2 ^ 16) *ℤ t) → Inside r.lo r.hi (n * s) (pos (2 ^ 16) *ℤ (pos s *ℤ dot_of m v +ℤ pos n *ℤ t))
+coordinate turned by r n s m v t e h i =
+    let d : dot_of (times (pos (2 ^ 30)) m) v ≡ (pos (2 ^ 16) *ℤ dot_of m v) *ℤ pos (2 ^ 14) =
+        equal (m.x ∷ m.y ∷ m.z ∷ v.x ∷ v.y ∷ v.z ∷ []) ((num (pos (2 ^ 30)) ⊗ var 0) ⊗ var 3 ⊕ (num (pos (2 ^ 30)) ⊗ var 1) ⊗ var 4 ⊕ (num (pos (2 ^ 30)) ⊗ var 2) ⊗ var 5)
+        ((num (pos (2 ^ 16)) ⊗ (var 0 ⊗ var 3 ⊕ var 1 ⊗ var 4 ⊕ var 2 ⊗ var 5)) ⊗ num (pos (2 ^ 14))) refl in
+    let a : Inside turned.lo turned.hi n (pos (2 ^ 16) *ℤ dot_of m v) = cut turned.lo turned.hi (pos (2 ^ 16) *ℤ dot_of m v) n (subst (λ z. Inside turned.lo turned.hi (n * 2 ^ 14) z) d h) in
+    let a' = rescaled turned.lo turned.hi n s (pos (2 ^ 16) *ℤ dot_of m v) a in
+    let b' = rescaled by.lo by.hi s n (pos (2 ^ 16) *ℤ t) i in
+    let o : s * n ≡ n * s = omega arith in
+    let c = sum_inside turned.lo turned.hi by.lo by.hi (n * s) ((pos (2 ^ 16) *ℤ dot_of m v) *ℤ pos s) ((pos (2 ^ 16) *ℤ t) *ℤ pos n) a' (subst (λ z. Inside by.lo by.hi z ((pos (2 ^ 16) *ℤ t) *ℤ pos n)) o b') in
+    let g : (pos (2 ^ 16) *ℤ dot_of m v) *ℤ pos s +ℤ (pos (2 ^ 16) *ℤ t) *ℤ pos n ≡ pos (2 ^ 16) *ℤ (pos s *ℤ dot_of m v +ℤ pos n *ℤ t) =
+        equal (dot_of m v ∷ pos s ∷ t ∷ pos n ∷ []) ((num (pos (2 ^ 16)) ⊗ var 0) ⊗ var 1 ⊕ (num (pos (2 ^ 16)) ⊗ var 2) ⊗ var 3) (num (pos (2 ^ 16)) ⊗ (var 1 ⊗ var 0 ⊕ var 3 ⊗ var 2)) refl in
+    with-ends r (sum (ends turned) (ends by)) (n * s) (pos (2 ^ 16) *ℤ (pos s *ℤ dot_of m v +ℤ pos n *ℤ t)) e (subst (λ z. Inside (turned.lo +ℤ by.lo) (turned.hi +ℤ by.hi) (n * s) z) g c)
+
+-- the boxes of a matrix, of a turned vector and of its sum with a translation hold the image
+pub holds-images : (b : RotationBox) (m : MatrixBox) (v : V3) (x t r : VecBox) → EnclosesMatrix b m → EnclosesTurned m v x → vector_ends r ≡ moved_formula (vector_ends x) (vector_ends t) → EnclosesImages b t v r
+holds-images b m v x t r f g e p ok rot trans =
+    let n : ℕ = norm_of p.turn in
+    let a = matrix_of p.turn in
+    let u = g n (matrix_times (pos (2 ^ 30)) a) (f p.turn ok.turn rot) in
+    record {
+      x = coordinate x.x t.x r.x n p.scale a.x v p.shift.x (ap (λ z. z.x) e) u.x trans.x;
+      y = coordinate x.y t.y r.y n p.scale a.y v p.shift.y (ap (λ z. z.y) e) u.y trans.y;
+      z = coordinate x.z t.z r.z n p.scale a.z v p.shift.z (ap (λ z. z.z) e) u.z trans.z;
+    }

@@ -1,4 +1,6 @@
 pub mod Encloses
+pub mod Grid
+pub mod Inner
 pub mod KnownValues
 pub mod Polynomials
 pub mod Rigid

@@ -2,7 +2,7 @@
 use Rattle.std.specs.Prelude.{ℕ, ℤ, pos, ◌≡◌, ◌*◌, ◌^◌, ◌≤◌, ◌<◌, ◌⊎◌, ◌+ℤ◌, ◌-ℤ◌, ◌*ℤ◌, ◌≤ℤ◌, unsigned_abs}
 use Rattle.gd_interval.specs.Interval.{Inside}
 use Rattle.gd_interval.specs.declared.iv.Iv.{Iv}
-use Rattle.gd_quat.specs.Placements.{IsPlacement, Placement, denominator_of, image_of, times}
+use Rattle.gd_quat.specs.Placements.{IsPlacement, Placement, denominator_of, image_of, plus, times}
 use Rattle.gd_quat.specs.Rotations.{IsRotation, Matrix, Rotation, applied, matrix_of, norm_of}
 use Rattle.gd_quat.specs.declared.shape.MatrixBox.{MatrixBox}
 use Rattle.gd_quat.specs.declared.shape.RotationBox.{RotationBox}
@@ -70,6 +70,10 @@ EnclosesMatrix b m = (q : Rotation) → IsRotation q → HoldsRotation b q → H
 -- the box r holds e v / 2^14 for every matrix e that the box m holds: entries in 2^-30 become fine units of 2^-16 unit
 abbrev pub EnclosesTurned : MatrixBox → V3 → VecBox → Type 0
 EnclosesTurned m v r = (k : ℕ) (e : Matrix) → HoldsMatrix m k e → HoldsVector r (k * 2 ^ 14) (applied e v)
+
+-- the box r holds the sum of every two vectors of a and b over one denominator
+abbrev pub EnclosesMoved : VecBox → VecBox → VecBox → Type 0
+EnclosesMoved a b r = (k : ℕ) (v w : V3) → HoldsVector a k v → HoldsVector b k w → HoldsVector r k (plus v w)
 
 -- the box r holds, in fine units, the exact image of the point at v under a placement
 abbrev pub HoldsImage : VecBox → Placement → V3 → Type 0

@@ -2,7 +2,9 @@
 use Rattle.std.specs.Prelude.{ℕ, ℤ, pos, ◌+ℤ◌, ◌-ℤ◌, ◌*ℤ◌}
 use Rattle.gd_interval.specs.Formulas.{scale_lo, scale_hi, mul_lo, mul_hi, square_lo, square_hi, quot_lo, quot_hi, narrow_lo, narrow_hi}
 use Rattle.gd_interval.specs.declared.iv.Iv.{Iv}
+use Rattle.gd_quat.specs.Placements.{rotation_at}
 use Rattle.gd_quat.specs.declared.shape.MatrixBox.{MatrixBox}
+use Rattle.gd_quat.specs.declared.shape.Ratios.{Ratios}
 use Rattle.gd_quat.specs.declared.shape.RotationBox.{RotationBox}
 use Rattle.gd_quat.specs.declared.shape.VecBox.{VecBox}
 use Rattle.gd_vec.specs.declared.vector.V3.{V3}
@@ -127,3 +129,20 @@ turned_formula m v = record { x = row_formula m.x v; y = row_formula m.y v; z = 
 
 abbrev pub moved_formula : VectorEnds → VectorEnds → VectorEnds
 moved_formula a t = record { x = sum a.x t.x; y = sum a.y t.y; z = sum a.z t.z }
+
+-- a box of images: the point is turned and moved
+abbrev pub image_formula : RotationEnds → VectorEnds → V3 → VectorEnds
+image_formula q t v = moved_formula (turned_formula (matrix_formula q) v) t
+
+-- one number, and one vector, alone
+abbrev pub alone : ℤ → Ends
+alone z = record { lo = z; hi = z }
+
+abbrev pub point_ends : V3 → VectorEnds
+point_ends v = record { x = alone v.x; y = alone v.y; z = alone v.z }
+
+-- the rotation of a face and three ratios alone
+abbrev pub grid_ends : ℕ → Ratios → RotationEnds
+grid_ends face r =
+    let q = rotation_at face r in
+    record { q0 = alone q.q0; q1 = alone q.q1; q2 = alone q.q2; q3 = alone q.q3 }

@@ -1,13 +1,97 @@
 // Where the points of a part go.
-ghost use Rattle.std.specs.Prelude.{◌≡◌, ◌+◌, ◌*◌, ◌^◌, ◌≤◌, ◌∷◌, ℕ, unsigned_abs};
+ghost use Rattle.std.specs.Prelude.{◌≡◌, ◌+◌, ◌*◌, ◌^◌, ◌≤◌, ℕ, unsigned_abs};
+ghost use Rattle.gd_quat.specs.Boxes.{EnclosesMoved, EnclosesTurned, Fits, HoldsImage, HoldsVector, HoldsRotation, IsRotationBox, MatrixFits, MatrixWidth, TurnedWidth, VectorFits};
+ghost use Rattle.gd_quat.specs.Formulas.{alone, ends, grid_ends, image_formula, matrix_ends, moved_formula, multiple, point_ends, rotation_ends, row_formula, row_sum_formula, sum, turned_formula, vector_ends};
+ghost use Rattle.gd_quat.specs.Placements.{IsOnGrid, placement_of, rotation_at};
 ghost use Rattle.gd_vec.specs.Vector.{IsWithin};
-ghost use Rattle.gd_quat.specs.Boxes.{EnclosesTurned, Fits, HoldsImage, IsRotationBox, MatrixFits, MatrixWidth, TurnedWidth, VectorFits};
-ghost use Rattle.gd_quat.specs.Formulas.{ends, matrix_ends, matrix_formula, moved_formula, rotation_ends, multiple, row_formula, row_sum_formula, turned_formula, vector_ends};
 
 use crate::matrices::matrix;
-use crate::shape::{Assignment, MatrixBox, Ratios, RotationBox, VecBox};
+use crate::shape::{Assignment, MatrixBox, RotationBox, VecBox};
 use gd_interval::{Iv, add, narrow, point, scale};
 use gd_vec::V3;
+
+// 1 as a ratio. Ratios are in 2^-30.
+const ONE: i128 = 1 << 30;
+
+/// The boxes of both, added entry by entry, in the unit of both: images in fine units and a translation or an offset.
+#[inline]
+pub fn moved(a: &VecBox, by: &VecBox) -> VecBox
+    requires a { VectorFits (2 ^ 64) a.now }
+    requires by { VectorFits (2 ^ 64) by.now }
+    ensures ends { vector_ends result ≡ moved_formula (vector_ends a.now) (vector_ends by.now) }
+    ensures encloses { EnclosesMoved a.now by.now result }
+{
+    shifted(a, by)
+}
+
+// The sums, entry by entry.
+#[inline]
+fn shifted(a: &VecBox, by: &VecBox) -> VecBox
+    requires a { VectorFits (2 ^ 64) a.now }
+    requires by { VectorFits (2 ^ 64) by.now }
+    ensures { vector_ends result ≡ moved_formula (vector_ends a.now) (vector_ends by.now) }
+{
+    VecBox {
+        x: entry_sum(a.x, by.x),
+        y: entry_sum(a.y, by.y),
+        z: entry_sum(a.z, by.z),
+    }
+}
+
+// The sum of two entries.
+#[inline]
+fn entry_sum(a: Iv, b: Iv) -> Iv
+    requires a { Fits (2 ^ 64) a }
+    requires b { Fits (2 ^ 64) b }
+    ensures { ends result ≡ sum (ends a) (ends b) }
+{
+    add(a, b)
+}
+
+/// The box of the exact image of a point at a placement of the grid, in fine units of 2^-16 unit. `v` is the point less
+/// the part's first point, in units. Offsets of features are left out.
+pub fn image_box(a: &Assignment, v: &V3) -> VecBox
+    requires a { IsOnGrid a.now }
+    requires v { IsWithin (2 ^ 40) v.now }
+    ensures ends { vector_ends result ≡ image_formula (grid_ends a.now.face a.now.ratios) (point_ends a.now.shift) v.now }
+    ensures encloses { HoldsImage result (placement_of a.now) v.now }
+{
+    let m = matrix(&grid_box(a));
+    moved(&turned(&m, v), &point_box(&a.shift))
+}
+
+/// The box that holds the rotation of a placement of the grid alone, in 2^-30.
+#[inline]
+pub fn grid_box(a: &Assignment) -> RotationBox
+    requires { IsOnGrid a.now }
+    ensures ends { rotation_ends result ≡ grid_ends a.now.face a.now.ratios }
+    ensures fits { IsRotationBox result }
+    ensures holds { HoldsRotation result (rotation_at a.now.face a.now.ratios) }
+{
+    box_at(a)
+}
+
+/// The box that holds one vector alone, in its unit.
+#[inline]
+pub fn point_box(v: &V3) -> VecBox
+    ensures ends { vector_ends result ≡ point_ends v.now }
+    ensures size { VectorFits (2 ^ 63) result }
+{
+    VecBox {
+        x: coordinate(v.x),
+        y: coordinate(v.y),
+        z: coordinate(v.z),
+    }
+}
+
+// One coordinate alone.
+#[inline]
+fn coordinate(z: i64) -> Iv
+    ensures ends { ends result ≡ alone z }
+    ensures size { Fits (2 ^ 63) result }
+{
+    point(i128::from(z))
+}
 
 /// The vector `v`, in units, turned by every matrix of a box in 2^-30: in fine units of 2^-16 unit.
 /// The products of a row are added exactly, and the sum loses 14 bits, outward.
@@ -72,4 +156,31 @@ fn scaled(a: Iv, factor: i64) -> Iv
     ensures size { Fits (2 ^ 74) result }
 {
     scale(a, i128::from(factor))
+}
+
+// One number alone.
+#[inline]
+fn ratio(z: i64) -> Iv
+    requires { unsigned_abs z ≤ 2 ^ 30 }
+    ensures ends { ends result ≡ alone z }
+    ensures size { Fits (2 ^ 30) result }
+{
+    coordinate(z)
+}
+
+// The leading component is 1, and the others are the ratios.
+#[inline]
+fn box_at(a: &Assignment) -> RotationBox
+    requires { IsOnGrid a.now }
+    ensures ends { rotation_ends result ≡ grid_ends a.now.face a.now.ratios }
+    ensures fits { IsRotationBox result }
+{
+    let one = point(ONE);
+    let (first, second, third) = (ratio(a.ratios.first), ratio(a.ratios.second), ratio(a.ratios.third));
+    match a.face {
+        0 => RotationBox { q0: one, q1: first, q2: second, q3: third },
+        1 => RotationBox { q0: first, q1: one, q2: second, q3: third },
+        2 => RotationBox { q0: first, q1: second, q2: one, q3: third },
+        _ => RotationBox { q0: first, q1: second, q2: third, q3: one },
+    }
 }
