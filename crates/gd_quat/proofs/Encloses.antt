@@ -2,19 +2,19 @@
 use Rattle.std.proofs.Common.{◌≡◌, refl, sym, ap, subst, ◌∙◌, ℕ, ◌*◌, ◌^◌, ◌<◌, List, [], ◌∷◌, arith, unsigned_abs, inl, inr, ⊎_elim}
 use Rattle.std.proofs.lemmas.Int.{ints}
 use Rattle.std.proofs.Math.Nat.{mul-pos}
-use Rattle.std.specs.Prelude.{ℤ, pos, negsuc, ◌+ℤ◌, ◌-ℤ◌, ◌*ℤ◌, ◌≤ℤ◌, ◌<ℤ◌, ◌⊎◌}
-use Rattle.gd_int.proofs.Integers.{mul_le_out, square_nonneg, mul_comm_ℤ}
+use Rattle.std.specs.Prelude.{ℤ, pos, ◌+ℤ◌, ◌-ℤ◌, ◌*ℤ◌, ◌≤ℤ◌, ◌<ℤ◌, ◌⊎◌}
+use Rattle.gd_int.proofs.Integers.{mul_le_out, square_nonneg}
 use Rattle.gd_interval.proofs.Encloses.{difference_inside, multiple_inside, narrowed_inside, product_inside, quotient_inside, rescaled, square_inside, sum_inside}
 use Rattle.gd_interval.proofs.Products.{square-ordered, square_lo-reached}
 use Rattle.gd_interval.specs.Formulas.{quot_lo, quot_hi, square_hi, square_lo}
 use Rattle.gd_interval.specs.Interval.{Inside}
 use Rattle.gd_interval.specs.declared.iv.Iv.{Iv}
 use Rattle.gd_quat.proofs.Polynomials.{Poly, var, num, ◌⊕◌, ◌⊖◌, ◌⊗◌, equal}
-use Rattle.gd_quat.proofs.Rigid.{norm-is, pa, pb, pc, pd, size-square, squares, two, xx, xy, xz, yx, yy, yz, zx, zy, zz, pn}
+use Rattle.gd_quat.proofs.Rigid.{norm-is, pa, pb, pc, pd, size-square, two, xx, xy, xz, yx, yy, yz, zx, zy, zz, pn}
 use Rattle.gd_quat.specs.Boxes.{EnclosesImages, EnclosesMatrix, EnclosesMoved, EnclosesTurned, HoldsMatrix, HoldsRotation, HoldsVector, IsOne, IsRotationBox, matrix_times}
-use Rattle.gd_quat.specs.Formulas.{Ends, MatrixEnds, RotationEnds, VectorEnds, balance, difference, ends, multiple, product, square, sum, matrix_ends, matrix_formula, moved_formula, norm_ends, numerator_ends, rotation_ends, quotient, row_formula, row_sum_formula, turned_formula, twice_difference, twice_sum, vector_ends}
+use Rattle.gd_quat.specs.Formulas.{Ends, MatrixEnds, balance, difference, ends, multiple, product, square, sum, matrix_ends, matrix_formula, moved_formula, norm_ends, numerator_ends, rotation_ends, quotient, row_formula, turned_formula, twice_difference, twice_sum, vector_ends}
 use Rattle.gd_quat.specs.Placements.{times}
-use Rattle.gd_quat.specs.Rotations.{IsRotation, Matrix, Rotation, applied, matrix_of, norm_of}
+use Rattle.gd_quat.specs.Rotations.{Matrix, Rotation, matrix_of, norm_of}
 use Rattle.gd_quat.specs.declared.shape.MatrixBox.{MatrixBox}
 use Rattle.gd_quat.specs.declared.shape.RotationBox.{RotationBox}
 use Rattle.gd_quat.specs.declared.shape.VecBox.{VecBox}
@@ -56,10 +56,10 @@ quotient-over a b c e k n f m x w cp ce h i xe we fp kp =
     let over : ℤ = pos ((k * k) * (g * g)) in
     let over-counts : pos 0 <ℤ over = omega (arith, ints, mul-pos (mul-pos kp kp) (mul-pos fp fp)) in
     let left : (z : ℤ) → z *ℤ pos ((k * k) * ((g * g) * n)) ≡ (z *ℤ pos n) *ℤ over =
-        λ z. equal (z ∷ pos n ∷ pos k ∷ pos g ∷ []) (var 0 ⊗ ((var 2 ⊗ var 2) ⊗ ((var 3 ⊗ var 3) ⊗ var 1))) ((var 0 ⊗ var 1) ⊗ ((var 2 ⊗ var 2) ⊗ (var 3 ⊗ var 3))) refl in
+    λ z. equal (z ∷ pos n ∷ pos k ∷ pos g ∷ []) (var 0 ⊗ ((var 2 ⊗ var 2) ⊗ ((var 3 ⊗ var 3) ⊗ var 1))) ((var 0 ⊗ var 1) ⊗ ((var 2 ⊗ var 2) ⊗ (var 3 ⊗ var 3))) refl in
     let right : x *ℤ pos (2 ^ 30 * (k * k)) ≡ (pos (2 ^ 30) *ℤ m) *ℤ over =
-        ap (λ z. z *ℤ pos (2 ^ 30 * (k * k))) (xe ∙ ap (λ z. z *ℤ m) (sym ff))
-        ∙ equal (pos g ∷ m ∷ pos k ∷ pos (2 ^ 30) ∷ []) (((var 0 ⊗ var 0) ⊗ var 1) ⊗ (var 3 ⊗ (var 2 ⊗ var 2))) ((var 3 ⊗ var 1) ⊗ ((var 2 ⊗ var 2) ⊗ (var 0 ⊗ var 0))) refl in (
+    ap (λ z. z *ℤ pos (2 ^ 30 * (k * k))) (xe ∙ ap (λ z. z *ℤ m) (sym ff))
+    ∙ equal (pos g ∷ m ∷ pos k ∷ pos (2 ^ 30) ∷ []) (((var 0 ⊗ var 0) ⊗ var 1) ⊗ (var 3 ⊗ (var 2 ⊗ var 2))) ((var 3 ⊗ var 1) ⊗ ((var 2 ⊗ var 2) ⊗ (var 0 ⊗ var 0))) refl in (
       mul_le_out (q *ℤ pos n) (pos (2 ^ 30) *ℤ m) over over-counts (subst (λ z. z ≤ℤ ((pos (2 ^ 30) *ℤ m) *ℤ over)) (left q) (subst (λ z. (q *ℤ pos ((k * k) * ((g * g) * n))) ≤ℤ z) right j.0)),
       mul_le_out (pos (2 ^ 30) *ℤ m) (r *ℤ pos n) over over-counts (subst (λ z. ((pos (2 ^ 30) *ℤ m) *ℤ over) ≤ℤ z) (left r) (subst (λ z. z ≤ℤ (r *ℤ pos ((k * k) * ((g * g) * n)))) right j.1)),
     )
@@ -133,7 +133,7 @@ module _ (b : RotationBox) (boxed : IsRotationBox b) (q : Rotation) (held : Hold
   entry a n m x e xe h =
       let w : ℤ = (y0 *ℤ y0 +ℤ y1 *ℤ y1) +ℤ (y2 *ℤ y2 +ℤ y3 *ℤ y3) in
       let we : w ≡ (f *ℤ f) *ℤ pos (norm_of q) =
-          equal (q.q0 ∷ q.q1 ∷ q.q2 ∷ q.q3 ∷ held.factor ∷ []) ((fa ⊗ fa ⊕ fb ⊗ fb) ⊕ (fc ⊗ fc ⊕ fd ⊗ fd)) ((pf ⊗ pf) ⊗ pn) refl ∙ ap (λ z. (f *ℤ f) *ℤ z) (sym (norm-is q)) in
+      equal (q.q0 ∷ q.q1 ∷ q.q2 ∷ q.q3 ∷ held.factor ∷ []) ((fa ⊗ fa ⊕ fb ⊗ fb) ⊕ (fc ⊗ fc ⊕ fd ⊗ fd)) ((pf ⊗ pf) ⊗ pn) refl ∙ ap (λ z. (f *ℤ f) *ℤ z) (sym (norm-is q)) in
       let p : pos 0 <ℤ norm.lo = omega (arith, ints, norm-large b boxed) in
       with-ends a (quotient n norm) (norm_of q) (pos (2 ^ 30) *ℤ m) e
       (quotient-over n.lo n.hi norm.lo norm.hi held.under (norm_of q) f m x w p norm-ordered h norm-held xe we held.factor-counts held.under-counts)
@@ -241,15 +241,15 @@ coordinate : (turned by r : Iv) (n s : ℕ) (m : V3) (v : V3) (t : ℤ) → ends
     → Inside by.lo by.hi s (pos (2 ^ 16) *ℤ t) → Inside r.lo r.hi (n * s) (pos (2 ^ 16) *ℤ (pos s *ℤ dot_of m v +ℤ pos n *ℤ t))
 coordinate turned by r n s m v t e h i =
     let d : dot_of (times (pos (2 ^ 30)) m) v ≡ (pos (2 ^ 16) *ℤ dot_of m v) *ℤ pos (2 ^ 14) =
-        equal (m.x ∷ m.y ∷ m.z ∷ v.x ∷ v.y ∷ v.z ∷ []) ((num (pos (2 ^ 30)) ⊗ var 0) ⊗ var 3 ⊕ (num (pos (2 ^ 30)) ⊗ var 1) ⊗ var 4 ⊕ (num (pos (2 ^ 30)) ⊗ var 2) ⊗ var 5)
-        ((num (pos (2 ^ 16)) ⊗ (var 0 ⊗ var 3 ⊕ var 1 ⊗ var 4 ⊕ var 2 ⊗ var 5)) ⊗ num (pos (2 ^ 14))) refl in
+    equal (m.x ∷ m.y ∷ m.z ∷ v.x ∷ v.y ∷ v.z ∷ []) ((num (pos (2 ^ 30)) ⊗ var 0) ⊗ var 3 ⊕ (num (pos (2 ^ 30)) ⊗ var 1) ⊗ var 4 ⊕ (num (pos (2 ^ 30)) ⊗ var 2) ⊗ var 5)
+    ((num (pos (2 ^ 16)) ⊗ (var 0 ⊗ var 3 ⊕ var 1 ⊗ var 4 ⊕ var 2 ⊗ var 5)) ⊗ num (pos (2 ^ 14))) refl in
     let a : Inside turned.lo turned.hi n (pos (2 ^ 16) *ℤ dot_of m v) = cut turned.lo turned.hi (pos (2 ^ 16) *ℤ dot_of m v) n (subst (λ z. Inside turned.lo turned.hi (n * 2 ^ 14) z) d h) in
     let a' = rescaled turned.lo turned.hi n s (pos (2 ^ 16) *ℤ dot_of m v) a in
     let b' = rescaled by.lo by.hi s n (pos (2 ^ 16) *ℤ t) i in
     let o : s * n ≡ n * s = omega arith in
     let c = sum_inside turned.lo turned.hi by.lo by.hi (n * s) ((pos (2 ^ 16) *ℤ dot_of m v) *ℤ pos s) ((pos (2 ^ 16) *ℤ t) *ℤ pos n) a' (subst (λ z. Inside by.lo by.hi z ((pos (2 ^ 16) *ℤ t) *ℤ pos n)) o b') in
     let g : (pos (2 ^ 16) *ℤ dot_of m v) *ℤ pos s +ℤ (pos (2 ^ 16) *ℤ t) *ℤ pos n ≡ pos (2 ^ 16) *ℤ (pos s *ℤ dot_of m v +ℤ pos n *ℤ t) =
-        equal (dot_of m v ∷ pos s ∷ t ∷ pos n ∷ []) ((num (pos (2 ^ 16)) ⊗ var 0) ⊗ var 1 ⊕ (num (pos (2 ^ 16)) ⊗ var 2) ⊗ var 3) (num (pos (2 ^ 16)) ⊗ (var 1 ⊗ var 0 ⊕ var 3 ⊗ var 2)) refl in
+    equal (dot_of m v ∷ pos s ∷ t ∷ pos n ∷ []) ((num (pos (2 ^ 16)) ⊗ var 0) ⊗ var 1 ⊕ (num (pos (2 ^ 16)) ⊗ var 2) ⊗ var 3) (num (pos (2 ^ 16)) ⊗ (var 1 ⊗ var 0 ⊕ var 3 ⊗ var 2)) refl in
     with-ends r (sum (ends turned) (ends by)) (n * s) (pos (2 ^ 16) *ℤ (pos s *ℤ dot_of m v +ℤ pos n *ℤ t)) e (subst (λ z. Inside (turned.lo +ℤ by.lo) (turned.hi +ℤ by.hi) (n * s) z) g c)
 
 -- the boxes of a matrix, of a turned vector and of its sum with a translation hold the image

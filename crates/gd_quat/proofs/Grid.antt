@@ -1,13 +1,13 @@
 -- Placements of the grid: their boxes hold them.
-use Rattle.std.proofs.Common.{◌≡◌, refl, sym, ap, subst, ℕ, ◌+◌, ◌*◌, ◌^◌, ◌<◌, Bool, true, false, ◌==◌, arith, unsigned_abs}
+use Rattle.std.proofs.Common.{◌≡◌, sym, ap, subst, ℕ, ◌+◌, ◌*◌, ◌^◌, ◌<◌, Bool, true, false, ◌==◌, arith}
 use Rattle.std.proofs.lemmas.Int.{ints}
-use Rattle.std.specs.Prelude.{ℤ, pos, ◌*ℤ◌, ◌≤ℤ◌, if◌then◌else◌}
+use Rattle.std.specs.Prelude.{ℤ, pos, ◌*ℤ◌, if◌then◌else◌}
 use Rattle.gd_interval.specs.Interval.{Inside}
 use Rattle.gd_interval.specs.declared.iv.Iv.{Iv}
 use Rattle.gd_quat.specs.Boxes.{HoldsRotation, HoldsVector}
 use Rattle.gd_quat.specs.Formulas.{alone, ends, grid_ends, point_ends, rotation_ends, vector_ends}
 use Rattle.gd_quat.specs.Placements.{IsPlacement, placement_of, rotation_at, times}
-use Rattle.gd_quat.specs.Rotations.{IsRotation, Rotation, norm_of}
+use Rattle.gd_quat.specs.Rotations.{IsRotation, Rotation}
 use Rattle.gd_quat.specs.declared.shape.Assignment.{Assignment}
 use Rattle.gd_quat.specs.declared.shape.Ratios.{Ratios}
 use Rattle.gd_quat.specs.declared.shape.RotationBox.{RotationBox}

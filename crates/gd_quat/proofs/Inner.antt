@@ -1,7 +1,7 @@
 -- Smaller boxes give matrices and images inside.
-use Rattle.std.proofs.Common.{◌≡◌, refl, sym, ap, subst, ◌∙◌, ℕ, ◌^◌, arith}
+use Rattle.std.proofs.Common.{◌≡◌, sym, ap, subst, ◌^◌, arith}
 use Rattle.std.proofs.lemmas.Int.{ints}
-use Rattle.std.specs.Prelude.{ℤ, pos, ◌+ℤ◌, ◌-ℤ◌, ◌*ℤ◌, ◌≤ℤ◌, ◌<ℤ◌}
+use Rattle.std.specs.Prelude.{ℤ, pos, ◌*ℤ◌, ◌≤ℤ◌, ◌<ℤ◌}
 use Rattle.gd_int.proofs.Integers.{≤ℤ_trans}
 use Rattle.gd_interval.proofs.Nests.{difference-nests, multiple-nests, narrowed-nests, product-nests, quotient-nests, square-nests, sum-nests}
 use Rattle.gd_interval.proofs.Products.{mul_hi-above, mul_lo-below, square-ordered}
@@ -9,11 +9,8 @@ use Rattle.gd_interval.specs.Formulas.{mul_lo, mul_hi}
 use Rattle.gd_interval.specs.Interval.{IsInside}
 use Rattle.gd_interval.specs.declared.iv.Iv.{Iv}
 use Rattle.gd_quat.proofs.Encloses.{norm-large}
-use Rattle.gd_quat.specs.Boxes.{IsRotationBox}
-use Rattle.gd_quat.specs.Formulas.{Ends, MatrixEnds, VectorEnds, balance, difference, ends, matrix_ends, matrix_formula, moved_formula, multiple, narrowed, norm_ends, numerator_ends, product, quotient, rotation_ends, row_formula, row_sum_formula, square, sum, total, turned_formula, twice_difference, twice_sum, vector_ends}
-use Rattle.gd_quat.specs.Laws.{Lies, MatricesNest, MatrixInside, MovedNest, RotationInside, TurnedNest, VectorInside}
-use Rattle.gd_quat.specs.declared.shape.MatrixBox.{MatrixBox}
-use Rattle.gd_quat.specs.declared.shape.RotationBox.{RotationBox}
+use Rattle.gd_quat.specs.Formulas.{Ends, MatrixEnds, balance, difference, ends, multiple, narrowed, norm_ends, numerator_ends, product, quotient, rotation_ends, row_formula, row_sum_formula, square, sum, twice_difference, twice_sum, vector_ends}
+use Rattle.gd_quat.specs.Laws.{Lies, MatricesNest, MovedNest, TurnedNest, VectorInside}
 use Rattle.gd_quat.specs.declared.shape.VecBox.{VecBox}
 use Rattle.gd_vec.specs.declared.vector.V3.{V3}
 
@@ -66,10 +63,10 @@ matrices-nest a b m n ha hb h e f =
     let d : Ends = norm_ends (rotation_ends a) in
     let g : Ends = norm_ends (rotation_ends b) in
     let below : Part d g = in-sum (sum (square (ends a.q0)) (square (ends a.q1))) (sum (square (ends b.q0)) (square (ends b.q1))) (sum (square (ends a.q2)) (square (ends a.q3))) (sum (square (ends b.q2)) (square (ends b.q3)))
-            (in-sum (square (ends a.q0)) (square (ends b.q0)) (square (ends a.q1)) (square (ends b.q1)) s0 s1) (in-sum (square (ends a.q2)) (square (ends b.q2)) (square (ends a.q3)) (square (ends b.q3)) s2 s3) in
+    (in-sum (square (ends a.q0)) (square (ends b.q0)) (square (ends a.q1)) (square (ends b.q1)) s0 s1) (in-sum (square (ends a.q2)) (square (ends b.q2)) (square (ends a.q3)) (square (ends b.q3)) s2 s3) in
     let large : pos 0 <ℤ g.lo = positive g.lo (norm-large b hb) in
     let go : (r s : Iv) (u v : Ends) → ends r ≡ quotient u d → ends s ≡ quotient v g → IsInside u.lo u.hi v.lo v.hi → Lies r s =
-        λ r s u v k l i. lies r s (quotient u d) (quotient v g) k l (quotient-nests v.lo v.hi g.lo g.hi u.lo u.hi d.lo d.hi large below.ordered i below.inside) in
+    λ r s u v k l i. lies r s (quotient u d) (quotient v g) k l (quotient-nests v.lo v.hi g.lo g.hi u.lo u.hi d.lo d.hi large below.ordered i below.inside) in
     record {
       x = record {
         x = go m.x.x n.x.x x.x.x y.x.x (ap (λ z. z.x.x) e) (ap (λ z. z.x.x) f) (balanced a.q0 a.q1 a.q2 a.q3 b.q0 b.q1 b.q2 b.q3 h.q0 h.q1 h.q2 h.q3);

@@ -17,7 +17,6 @@ pub data Poly : Type 0 where
 infixl 65 ◌⊕◌
 infixl 65 ◌⊖◌
 infixl 70 ◌⊗◌
-
 -- its value, where the variables have the values of a list
 abbrev pub value : List ℤ → Poly → ℤ
 value xs (var i) = get_or xs i (pos 0)
@@ -95,8 +94,8 @@ variable-value xs i (j ∷ m) =
     let y : ℤ = get_or xs j (pos 0) in
     let z : ℤ = product_value xs m in
     elim (nat_le i j) as (λ b. product_value xs (cond b (i ∷ j ∷ m) (j ∷ with_variable i m)) ≡ x *ℤ (y *ℤ z)) [
-      true ↦ refl
-    | false ↦ ap (λ w. y *ℤ w) (variable-value xs i m) ∙ sym (mul-assoc_ℤ y x z) ∙ ap (λ w. w *ℤ z) (mul_comm_ℤ y x) ∙ mul-assoc_ℤ x y z
+      | true ↦ refl
+      | false ↦ ap (λ w. y *ℤ w) (variable-value xs i m) ∙ sym (mul-assoc_ℤ y x z) ∙ ap (λ w. w *ℤ z) (mul_comm_ℤ y x) ∙ mul-assoc_ℤ x y z
     ]
 
 joined-value : (xs : List ℤ) (m n : Product) → product_value xs (joined m n) ≡ product_value xs m *ℤ product_value xs n
@@ -192,6 +191,6 @@ equal xs a b h =
     let e : value xs a -ℤ value xs b ≡ pos 0 = sym (terms-value xs (a ⊖ b)) ∙ zeros-value xs (terms (a ⊖ b)) h in
     omega (arith, ints, e)
 
--- a trial
-trial : (x y : ℤ) → (x +ℤ y) *ℤ (x -ℤ y) ≡ x *ℤ x -ℤ y *ℤ y
-trial x y = let a : Poly = var 0 in let b : Poly = var 1 in equal (x ∷ y ∷ []) ((a ⊕ b) ⊗ (a ⊖ b)) (a ⊗ a ⊖ b ⊗ b) refl
+-- (x + y) (x - y) = x^2 - y^2
+pub known_product : (x y : ℤ) → (x +ℤ y) *ℤ (x -ℤ y) ≡ x *ℤ x -ℤ y *ℤ y
+known_product x y = equal (x ∷ y ∷ []) ((var 0 ⊕ var 1) ⊗ (var 0 ⊖ var 1)) (var 0 ⊗ var 0 ⊖ var 1 ⊗ var 1) refl

@@ -1,12 +1,11 @@
 -- The matrix of a rotation keeps lengths, right angles and the hand.
-use Rattle.std.proofs.Common.{◌≡◌, refl, sym, ap, subst, ◌∙◌, ℕ, ◌*◌, List, [], ◌∷◌, arith, unsigned_abs}
+use Rattle.std.proofs.Common.{◌≡◌, refl, sym, subst, ◌*◌, List, [], ◌∷◌, arith, unsigned_abs}
 use Rattle.std.proofs.lemmas.Int.{ints}
-use Rattle.std.specs.Prelude.{ℤ, pos, negsuc, ◌+ℤ◌, ◌-ℤ◌, ◌*ℤ◌}
+use Rattle.std.specs.Prelude.{ℤ, pos, negsuc, ◌+ℤ◌, ◌*ℤ◌}
 use Rattle.gd_quat.proofs.Polynomials.{Poly, var, num, ◌⊕◌, ◌⊖◌, ◌⊗◌, equal}
-use Rattle.gd_quat.specs.Laws.{HasSquareRows, KeepsHand, KeepsProducts, KeepsRows, determinant_of}
-use Rattle.gd_quat.specs.Rotations.{Matrix, Rotation, applied, matrix_of, norm_of}
+use Rattle.gd_quat.specs.Laws.{KeepsHand, KeepsProducts, KeepsRows, determinant_of}
+use Rattle.gd_quat.specs.Rotations.{Rotation, applied, matrix_of, norm_of}
 use Rattle.gd_vec.specs.Vector.{dot_of}
-use Rattle.gd_vec.specs.declared.vector.V3.{V3}
 
 pub size-square : (z : ℤ) → pos (unsigned_abs z * unsigned_abs z) ≡ z *ℤ z
 size-square (pos n) = omega (arith, ints)

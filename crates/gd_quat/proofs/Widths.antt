@@ -1,8 +1,8 @@
 -- How wide the entries of matrices and of turned vectors are.
-use Rattle.std.proofs.Common.{◌≡◌, refl, sym, ap, subst, ◌∙◌, ℕ, ◌+◌, ◌*◌, ◌^◌, ◌≤◌, List, [], ◌∷◌, arith, unsigned_abs, inl, inr}
-use Rattle.std.proofs.lemmas.Int.{ints, by_lt_z}
+use Rattle.std.proofs.Common.{◌≡◌, refl, sym, ap, subst, ℕ, ◌+◌, ◌*◌, ◌^◌, ◌≤◌, [], ◌∷◌, arith, unsigned_abs, inl, inr}
+use Rattle.std.proofs.lemmas.Int.{ints}
 use Rattle.std.specs.Prelude.{ℤ, pos, neg_ℤ, ◌+ℤ◌, ◌-ℤ◌, ◌*ℤ◌, ◌≤ℤ◌, ◌<ℤ◌, ◌⊎◌}
-use Rattle.gd_int.proofs.Integers.{mul-add_left, mul_le_right, mul_le_left, mul_le_out, mul_comm_ℤ, square_nonneg, ≤ℤ_trans}
+use Rattle.gd_int.proofs.Integers.{mul_le_right, mul_le_left, mul_le_out, mul_comm_ℤ, square_nonneg, ≤ℤ_trans}
 use Rattle.gd_int.proofs.Divisions.{floor-next, ceil-before}
 use Rattle.gd_interval.proofs.Products.{mul_hi-above, mul_lo-below, scale_hi-above, scale_lo-below, square-ordered, square_hi-above, square_lo-reached}
 use Rattle.gd_interval.proofs.Widths.{multiple-width, product-width, quotient-width, square-width}
@@ -11,9 +11,9 @@ use Rattle.gd_interval.specs.Formulas.{mul_lo, mul_hi, narrow_lo, narrow_hi, sca
 use Rattle.gd_interval.specs.Interval.{IsWithin}
 use Rattle.gd_interval.specs.declared.iv.Iv.{Iv}
 use Rattle.gd_quat.proofs.Encloses.{norm-large}
-use Rattle.gd_quat.proofs.Polynomials.{Poly, var, num, ◌⊕◌, ◌⊖◌, ◌⊗◌, equal}
+use Rattle.gd_quat.proofs.Polynomials.{var, num, ◌⊕◌, ◌⊖◌, ◌⊗◌, equal}
 use Rattle.gd_quat.specs.Boxes.{Fits, IsNarrow, IsOne, IsRotationBox, MatrixWidth, TurnedWidth, VectorWidth, width_of}
-use Rattle.gd_quat.specs.Formulas.{Ends, MatrixEnds, RotationEnds, VectorEnds, balance, difference, ends, matrix_ends, matrix_formula, multiple, norm_ends, numerator_ends, product, quotient, rotation_ends, row_formula, row_sum_formula, square, sum, turned_formula, twice_difference, twice_sum, vector_ends}
+use Rattle.gd_quat.specs.Formulas.{Ends, MatrixEnds, balance, ends, matrix_ends, matrix_formula, multiple, norm_ends, numerator_ends, product, quotient, rotation_ends, row_formula, row_sum_formula, square, turned_formula, twice_difference, twice_sum, vector_ends}
 use Rattle.gd_quat.specs.declared.shape.MatrixBox.{MatrixBox}
 use Rattle.gd_quat.specs.declared.shape.RotationBox.{RotationBox}
 use Rattle.gd_quat.specs.declared.shape.VecBox.{VecBox}
@@ -50,14 +50,14 @@ twice-below : (x y : ℤ) → (pos 2 *ℤ (x *ℤ y)) ≤ℤ (x *ℤ x +ℤ y *�
 twice-below x y =
     let s : pos 0 ≤ℤ ((x -ℤ y) *ℤ (x -ℤ y)) = square_nonneg (x -ℤ y) in
     let e : (x -ℤ y) *ℤ (x -ℤ y) ≡ (x *ℤ x +ℤ y *ℤ y) -ℤ pos 2 *ℤ (x *ℤ y) =
-        equal (x ∷ y ∷ []) ((var 0 ⊖ var 1) ⊗ (var 0 ⊖ var 1)) ((var 0 ⊗ var 0 ⊕ var 1 ⊗ var 1) ⊖ num (pos 2) ⊗ (var 0 ⊗ var 1)) refl in
+    equal (x ∷ y ∷ []) ((var 0 ⊖ var 1) ⊗ (var 0 ⊖ var 1)) ((var 0 ⊗ var 0 ⊕ var 1 ⊗ var 1) ⊖ num (pos 2) ⊗ (var 0 ⊗ var 1)) refl in
     omega (arith, ints, e, s)
 
 twice-above : (x y : ℤ) → neg_ℤ (x *ℤ x +ℤ y *ℤ y) ≤ℤ (pos 2 *ℤ (x *ℤ y))
 twice-above x y =
     let s : pos 0 ≤ℤ ((x +ℤ y) *ℤ (x +ℤ y)) = square_nonneg (x +ℤ y) in
     let e : (x +ℤ y) *ℤ (x +ℤ y) ≡ (x *ℤ x +ℤ y *ℤ y) +ℤ pos 2 *ℤ (x *ℤ y) =
-        equal (x ∷ y ∷ []) ((var 0 ⊕ var 1) ⊗ (var 0 ⊕ var 1)) ((var 0 ⊗ var 0 ⊕ var 1 ⊗ var 1) ⊕ num (pos 2) ⊗ (var 0 ⊗ var 1)) refl in
+    equal (x ∷ y ∷ []) ((var 0 ⊕ var 1) ⊗ (var 0 ⊕ var 1)) ((var 0 ⊗ var 0 ⊕ var 1 ⊗ var 1) ⊕ num (pos 2) ⊗ (var 0 ⊗ var 1)) refl in
     omega (arith, ints, e, s)
 
 -- the ends of a product of components, doubled, against the squares
@@ -177,7 +177,7 @@ summed a c d e n w ha hc hd he t s =
     let f = product-facts a c ha hc in
     let g = product-facts d e hd he in
     let k = core (mul_lo a.lo a.hi c.lo c.hi) (mul_hi a.lo a.hi c.lo c.hi) (mul_lo d.lo d.hi e.lo e.hi) (mul_hi d.lo d.hi e.lo e.hi) (square_hi a.lo a.hi) (square_hi c.lo c.hi) (square_hi d.lo d.hi) (square_hi e.lo e.hi)
-            (width_of a) (width_of c) (width_of d) (width_of e) n.hi w f.low f.high g.low g.high f.ordered g.ordered f.narrow g.narrow t s in
+    (width_of a) (width_of c) (width_of d) (width_of e) n.hi w f.low f.high g.low g.high f.ordered g.ordered f.narrow g.narrow t s in
     doubled (mul_lo a.lo a.hi c.lo c.hi +ℤ mul_lo d.lo d.hi e.lo e.hi) (mul_hi a.lo a.hi c.lo c.hi +ℤ mul_hi d.lo d.hi e.lo e.hi) n.hi w k.0 k.1 k.2 k.3 n refl
   where
     core : (pl ph rl rh a c d e wa wc wd we n : ℤ) (w : ℕ) → (pos 2 *ℤ pl) ≤ℤ (a +ℤ c) → neg_ℤ (a +ℤ c) ≤ℤ (pos 2 *ℤ ph) → (pos 2 *ℤ rl) ≤ℤ (d +ℤ e) → neg_ℤ (d +ℤ e) ≤ℤ (pos 2 *ℤ rh)
@@ -191,7 +191,7 @@ subtracted a c d e n w ha hc hd he t s =
     let f = product-facts a c ha hc in
     let g = product-facts d e hd he in
     let k = core (mul_lo a.lo a.hi c.lo c.hi) (mul_hi a.lo a.hi c.lo c.hi) (mul_lo d.lo d.hi e.lo e.hi) (mul_hi d.lo d.hi e.lo e.hi) (square_hi a.lo a.hi) (square_hi c.lo c.hi) (square_hi d.lo d.hi) (square_hi e.lo e.hi)
-            (width_of a) (width_of c) (width_of d) (width_of e) n.hi w f.low f.high g.low g.high f.ordered g.ordered f.narrow g.narrow t s in
+    (width_of a) (width_of c) (width_of d) (width_of e) n.hi w f.low f.high g.low g.high f.ordered g.ordered f.narrow g.narrow t s in
     doubled (mul_lo a.lo a.hi c.lo c.hi -ℤ mul_hi d.lo d.hi e.lo e.hi) (mul_hi a.lo a.hi c.lo c.hi -ℤ mul_lo d.lo d.hi e.lo e.hi) n.hi w k.0 k.1 k.2 k.3 n refl
   where
     core : (pl ph rl rh a c d e wa wc wd we n : ℤ) (w : ℕ) → (pos 2 *ℤ pl) ≤ℤ (a +ℤ c) → neg_ℤ (a +ℤ c) ≤ℤ (pos 2 *ℤ ph) → (pos 2 *ℤ rl) ≤ℤ (d +ℤ e) → neg_ℤ (d +ℤ e) ≤ℤ (pos 2 *ℤ rh)
@@ -217,10 +217,10 @@ narrow-matrix b m h e w n =
     let s3 : ℤ = square_hi b.q3.lo b.q3.hi in
     let s = sum-narrow b w h n in
     let whole : (d.lo ≤ℤ d.hi) × (width d ≤ℤ pos (6 * 2 ^ 30 * w)) =
-        core (square_lo b.q0.lo b.q0.hi) s0 (square_lo b.q1.lo b.q1.hi) s1 (square_lo b.q2.lo b.q2.hi) s2 (square_lo b.q3.lo b.q3.hi) s3
-        (width_of b.q0) (width_of b.q1) (width_of b.q2) (width_of b.q3) f0.ordered f1.ordered f2.ordered f3.ordered f0.narrow f1.narrow f2.narrow f3.narrow s in
+    core (square_lo b.q0.lo b.q0.hi) s0 (square_lo b.q1.lo b.q1.hi) s1 (square_lo b.q2.lo b.q2.hi) s2 (square_lo b.q3.lo b.q3.hi) s3
+    (width_of b.q0) (width_of b.q1) (width_of b.q2) (width_of b.q3) f0.ordered f1.ordered f2.ordered f3.ordered f0.narrow f1.narrow f2.narrow f3.narrow s in
     let go : (r : Iv) (y : Ends) → ends r ≡ quotient y d → Numerator y d w → width_of r ≤ℤ pos (12 * w + 2) =
-        λ r y g k. entry-width r y d w g k.ordered whole.0 (norm-large b h) k.below k.above k.narrow whole.1 in
+    λ r y g k. entry-width r y d w g k.ordered whole.0 (norm-large b h) k.below k.above k.narrow whole.1 in
     let same : Total b.q0 b.q1 b.q2 b.q3 ≤ℤ d.hi = self d.hi in
     let t0213 : Total b.q0 b.q2 b.q1 b.q3 ≤ℤ d.hi = order0213 s0 s1 s2 s3 in
     let t0312 : Total b.q0 b.q3 b.q1 b.q2 ≤ℤ d.hi = order0312 s0 s1 s2 s3 in
@@ -298,7 +298,7 @@ row-width m v r w e h =
     rounded : (a b l u t : ℤ) → l <ℤ ((a +ℤ pos 1) *ℤ pos (2 ^ 14)) → ((b -ℤ pos 1) *ℤ pos (2 ^ 14)) <ℤ u → (u -ℤ l) ≤ℤ t → (((b -ℤ a) -ℤ pos 2) *ℤ pos (2 ^ 14)) ≤ℤ t
     rounded a b l u t h i j =
         let e : ((b -ℤ a) -ℤ pos 2) *ℤ pos (2 ^ 14) ≡ (b -ℤ pos 1) *ℤ pos (2 ^ 14) -ℤ (a +ℤ pos 1) *ℤ pos (2 ^ 14) =
-            equal (a ∷ b ∷ pos (2 ^ 14) ∷ []) (((var 1 ⊖ var 0) ⊖ num (pos 2)) ⊗ var 2) ((var 1 ⊖ num (pos 1)) ⊗ var 2 ⊖ (var 0 ⊕ num (pos 1)) ⊗ var 2) refl in
+        equal (a ∷ b ∷ pos (2 ^ 14) ∷ []) (((var 1 ⊖ var 0) ⊖ num (pos 2)) ⊗ var 2) ((var 1 ⊖ num (pos 1)) ⊗ var 2 ⊖ (var 0 ⊕ num (pos 1)) ⊗ var 2) refl in
         rw e (omega (arith, ints, h, i, j))
 
 pub narrow-turned : (m : MatrixBox) (v : V3) (r : VecBox) → vector_ends r ≡ turned_formula (matrix_ends m) v → (w : ℕ) → MatrixWidth w m → TurnedWidth w v r

@@ -1,5 +1,5 @@
 -- Boxes of rotations, matrices and vectors, and what it means that a box holds an exact one.
-use Rattle.std.specs.Prelude.{ℕ, ℤ, pos, ◌≡◌, ◌*◌, ◌^◌, ◌≤◌, ◌<◌, ◌⊎◌, ◌+ℤ◌, ◌-ℤ◌, ◌*ℤ◌, ◌≤ℤ◌, unsigned_abs}
+use Rattle.std.specs.Prelude.{ℕ, ℤ, pos, ◌≡◌, ◌*◌, ◌^◌, ◌≤◌, ◌<◌, ◌⊎◌, ◌-ℤ◌, ◌*ℤ◌, ◌≤ℤ◌, unsigned_abs}
 use Rattle.gd_interval.specs.Interval.{Inside}
 use Rattle.gd_interval.specs.declared.iv.Iv.{Iv}
 use Rattle.gd_quat.specs.Placements.{IsPlacement, Placement, denominator_of, image_of, plus, times}

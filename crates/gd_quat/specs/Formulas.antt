@@ -1,8 +1,9 @@
 -- The ends of the entries of matrices and images, from the ends of the boxes that they are made of.
-use Rattle.std.specs.Prelude.{ℕ, ℤ, pos, ◌+ℤ◌, ◌-ℤ◌, ◌*ℤ◌}
+use Rattle.std.specs.Prelude.{ℕ, ℤ, pos, ◌+ℤ◌, ◌-ℤ◌}
 use Rattle.gd_interval.specs.Formulas.{scale_lo, scale_hi, mul_lo, mul_hi, square_lo, square_hi, quot_lo, quot_hi, narrow_lo, narrow_hi}
 use Rattle.gd_interval.specs.declared.iv.Iv.{Iv}
 use Rattle.gd_quat.specs.Placements.{rotation_at}
+use Rattle.gd_quat.specs.declared.shape.Assignment.{Assignment}
 use Rattle.gd_quat.specs.declared.shape.MatrixBox.{MatrixBox}
 use Rattle.gd_quat.specs.declared.shape.Ratios.{Ratios}
 use Rattle.gd_quat.specs.declared.shape.RotationBox.{RotationBox}
@@ -146,3 +147,7 @@ abbrev pub grid_ends : ℕ → Ratios → RotationEnds
 grid_ends face r =
     let q = rotation_at face r in
     record { q0 = alone q.q0; q1 = alone q.q1; q2 = alone q.q2; q3 = alone q.q3 }
+
+-- the box of the image of a point under a placement of the grid
+abbrev pub grid_image_formula : Assignment → V3 → VectorEnds
+grid_image_formula a v = image_formula (grid_ends a.face a.ratios) (point_ends a.shift) v

@@ -1,5 +1,5 @@
 -- What the matrix of a rotation keeps, and that smaller boxes give smaller results.
-use Rattle.std.specs.Prelude.{ℕ, ℤ, pos, ◌≡◌, ◌*◌, ◌*ℤ◌, ◌-ℤ◌, ◌+ℤ◌}
+use Rattle.std.specs.Prelude.{ℤ, pos, ◌≡◌, ◌*ℤ◌, ◌-ℤ◌, ◌+ℤ◌}
 use Rattle.gd_interval.specs.Interval.{IsInside}
 use Rattle.gd_interval.specs.declared.iv.Iv.{Iv}
 use Rattle.gd_quat.specs.Boxes.{EnclosesImages, EnclosesMatrix, EnclosesTurned, IsRotationBox}

@@ -1,5 +1,5 @@
 -- Placements of a part: a rotation about its first point and a translation, with one whole denominator, and up to two offsets of features.
-use Rattle.std.specs.Prelude.{ℕ, ℤ, pos, ◌+◌, ◌*◌, ◌^◌, ◌≤◌, ◌<◌, ◌+ℤ◌, ◌*ℤ◌, ◌==◌, unsigned_abs, if◌then◌else◌}
+use Rattle.std.specs.Prelude.{ℕ, ℤ, pos, ◌*◌, ◌^◌, ◌≤◌, ◌+ℤ◌, ◌*ℤ◌, ◌==◌, unsigned_abs, if◌then◌else◌}
 use Rattle.gd_quat.specs.Rotations.{Rotation, IsRotation, applied, matrix_of, norm_of}
 use Rattle.gd_quat.specs.declared.shape.Assignment.{Assignment}
 use Rattle.gd_quat.specs.declared.shape.Ratios.{Ratios}

@@ -1,5 +1,5 @@
 -- Rotations of space by four whole numbers: the matrix of a rotation has whole numerators over the sum of their squares.
-use Rattle.std.specs.Prelude.{ℕ, ℤ, pos, ◌≡◌, ◌+◌, ◌*◌, ◌<◌, ◌+ℤ◌, ◌-ℤ◌, ◌*ℤ◌, unsigned_abs}
+use Rattle.std.specs.Prelude.{ℕ, ℤ, pos, ◌+◌, ◌*◌, ◌<◌, ◌+ℤ◌, ◌-ℤ◌, ◌*ℤ◌, unsigned_abs}
 use Rattle.gd_vec.specs.Vector.{dot_of}
 use Rattle.gd_vec.specs.declared.vector.V3.{V3}
 

@@ -1,7 +1,10 @@
 // Where the points of a part go.
 ghost use Rattle.std.specs.Prelude.{◌≡◌, ◌+◌, ◌*◌, ◌^◌, ◌≤◌, ℕ, unsigned_abs};
-ghost use Rattle.gd_quat.specs.Boxes.{EnclosesMoved, EnclosesTurned, Fits, HoldsImage, HoldsVector, HoldsRotation, IsRotationBox, MatrixFits, MatrixWidth, TurnedWidth, VectorFits};
-ghost use Rattle.gd_quat.specs.Formulas.{alone, ends, grid_ends, image_formula, matrix_ends, moved_formula, multiple, point_ends, rotation_ends, row_formula, row_sum_formula, sum, turned_formula, vector_ends};
+ghost use Rattle.gd_quat.specs.Boxes.{EnclosesMoved, EnclosesTurned, Fits, HoldsImage, HoldsVector, HoldsRotation};
+ghost use Rattle.gd_quat.specs.Boxes.{IsRotationBox, MatrixFits, MatrixWidth, TurnedWidth, VectorFits};
+ghost use Rattle.gd_quat.specs.Formulas.{alone, ends, grid_ends, grid_image_formula, matrix_ends, moved_formula};
+ghost use Rattle.gd_quat.specs.Formulas.{multiple, point_ends, rotation_ends, row_formula, row_sum_formula, sum};
+ghost use Rattle.gd_quat.specs.Formulas.{turned_formula, vector_ends};
 ghost use Rattle.gd_quat.specs.Placements.{IsOnGrid, placement_of, rotation_at};
 ghost use Rattle.gd_vec.specs.Vector.{IsWithin};
 
@@ -53,7 +56,7 @@ fn entry_sum(a: Iv, b: Iv) -> Iv
 pub fn image_box(a: &Assignment, v: &V3) -> VecBox
     requires a { IsOnGrid a.now }
     requires v { IsWithin (2 ^ 40) v.now }
-    ensures ends { vector_ends result ≡ image_formula (grid_ends a.now.face a.now.ratios) (point_ends a.now.shift) v.now }
+    ensures ends { vector_ends result ≡ grid_image_formula a.now v.now }
     ensures encloses { HoldsImage result (placement_of a.now) v.now }
 {
     let m = matrix(&grid_box(a));
@@ -103,6 +106,7 @@ pub fn turned(m: &MatrixBox, v: &V3) -> VecBox
     ensures size { VectorFits (2 ^ 62) result }
     ensures encloses { EnclosesTurned m.now v.now result }
     ensures width { (w : ℕ) → MatrixWidth w m.now → TurnedWidth w v.now result }
+    ensures small { (n : ℕ) → MatrixFits (2 ^ 32) m.now → IsWithin n v.now → VectorFits (3 * 2 ^ 18 * n) result }
 {
     rows(m, v)
 }
@@ -141,10 +145,7 @@ fn row_sum(m: &VecBox, v: &V3) -> Iv
     ensures ends { ends result ≡ row_sum_formula (vector_ends m.now) v.now }
     ensures size { Fits (3 * 2 ^ 74) result }
 {
-    add(
-        add(scaled(m.x, v.x), scaled(m.y, v.y)),
-        scaled(m.z, v.z),
-    )
+    add(add(scaled(m.x, v.x), scaled(m.y, v.y)), scaled(m.z, v.z))
 }
 
 // The product of an entry and a coordinate.
@@ -176,11 +177,116 @@ fn box_at(a: &Assignment) -> RotationBox
     ensures fits { IsRotationBox result }
 {
     let one = point(ONE);
-    let (first, second, third) = (ratio(a.ratios.first), ratio(a.ratios.second), ratio(a.ratios.third));
+    let (first, second, third) = (
+        ratio(a.ratios.first),
+        ratio(a.ratios.second),
+        ratio(a.ratios.third),
+    );
     match a.face {
-        0 => RotationBox { q0: one, q1: first, q2: second, q3: third },
-        1 => RotationBox { q0: first, q1: one, q2: second, q3: third },
-        2 => RotationBox { q0: first, q1: second, q2: one, q3: third },
-        _ => RotationBox { q0: first, q1: second, q2: third, q3: one },
+        0 => RotationBox {
+            q0: one,
+            q1: first,
+            q2: second,
+            q3: third,
+        },
+        1 => RotationBox {
+            q0: first,
+            q1: one,
+            q2: second,
+            q3: third,
+        },
+        2 => RotationBox {
+            q0: first,
+            q1: second,
+            q2: one,
+            q3: third,
+        },
+        _ => RotationBox {
+            q0: first,
+            q1: second,
+            q2: third,
+            q3: one,
+        },
+    }
+}
+
+#[cfg(test)]
+mod tests {
+    use super::*;
+    use crate::shape::Ratios;
+
+    type Entries = (i64, i64, i64);
+
+    type Ends = (i128, i128);
+
+    // The ends of the box of the image of a point.
+    fn ends_at(face: u32, ratios: Entries, shift: Entries, at: Entries) -> (Ends, Ends, Ends)
+        requires face { face ≤ 3 }
+        requires first { unsigned_abs ratios.0 ≤ 2 ^ 30 }
+        requires second { unsigned_abs ratios.1 ≤ 2 ^ 30 }
+        requires third { unsigned_abs ratios.2 ≤ 2 ^ 30 }
+        requires point { IsWithin (2 ^ 40) (record { x = at.0; y = at.1; z = at.2 }) }
+    {
+        let shift = V3 {
+            x: shift.0,
+            y: shift.1,
+            z: shift.2,
+        };
+        let ratios = Ratios {
+            first: ratios.0,
+            second: ratios.1,
+            third: ratios.2,
+        };
+        let found = image_box(
+            &Assignment {
+                face,
+                ratios,
+                shift,
+                first: shift,
+                second: shift,
+            },
+            &V3 {
+                x: at.0,
+                y: at.1,
+                z: at.2,
+            },
+        );
+        (
+            (found.x.lo, found.x.hi),
+            (found.y.lo, found.y.hi),
+            (found.z.lo, found.z.hi),
+        )
+    }
+
+    // Ends by Python's fractions.
+    #[test]
+    fn images(rt: HostRuntime) {
+        let one = 1 << 30;
+        let quarter = ends_at(0, (0, 0, one), (0, 0, 0), (1000, 0, 0));
+        assert_eq!(rt; quarter, ((0, 0), (65_536_000, 65_536_000), (0, 0)));
+        let moved = ends_at(
+            3,
+            (0, 0, one / 2),
+            (65_536, -65_536, 5),
+            (1000, -2000, 3000),
+        );
+        assert_eq!(rt;
+            moved,
+            (
+                (-65_470_464, -65_470_464),
+                (235_864_063, 235_864_065),
+                (13_107_204, 13_107_206)
+            )
+        );
+        let tilted = ends_at(1, (-one / 2, one / 4, 0), (0, 0, 0), (7, 0, 0));
+        assert_eq!(rt;
+            tilted,
+            ((415_061, 415_062), (174_762, 174_763), (87_381, 87_382))
+        );
+        let third = ends_at(2, (one / 2, 0, 0), (1, 2, 3), (-5, 5, 1));
+        assert_eq!(rt;
+            third,
+            ((249_037, 249_038), (327_682, 327_682), (222_825, 222_826))
+        );
     }
 }

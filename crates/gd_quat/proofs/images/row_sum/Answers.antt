@@ -1,4 +1,4 @@
-use Rattle.std.proofs.Common.{◌≡◌, ap, ◌∙◌, rules, ◌+ℤ◌}
+use Rattle.std.proofs.Common.{◌≡◌, rules}
 use Rattle.gd_quat.specs.Formulas.{multiple, ends}
 use Rattle.gd_quat.proofs.Sizes.{ends-sum}
 use Rattle.gd_quat.proofs.images.row_sum.Goals as goal
