@@ -3,7 +3,7 @@ use Rattle.std.proofs.Common.{◌≡◌, refl, ℕ, true, false, [], ◌∷◌, 
 use Rattle.std.specs.Prelude.{codes}
 use Rattle.gd_base.specs.Causes.{Rose}
 use Rattle.gd_base.specs.Names.{is_name, name_of}
-use Rattle.gd_base.specs.Numerals.{has_plain_front}
+use Rattle.gd_base.specs.Numerals.{begins_plain, digits_from}
 
 -- ---- names
 pub known_name : is_name (codes "Hole_1-a") ≡ true
@@ -22,14 +22,20 @@ pub known_space : name_of (codes "a b") ≡ None
 known_space = refl
 
 -- ---- numerals
-pub known_zero : has_plain_front (codes "0") ≡ true
+pub known_zero : digits_from 0 (codes "0") ≡ Some 0
 known_zero = refl
 
-pub known_leading_zero : has_plain_front (codes "07") ≡ false
+pub known_number : digits_from 0 (codes "1000001") ≡ Some 1000001
+known_number = refl
+
+pub known_sign : digits_from 0 (codes "+7") ≡ None
+known_sign = refl
+
+pub known_leading_zero : begins_plain (codes "07") ≡ false
 known_leading_zero = refl
 
-pub known_plus : has_plain_front (codes "+7") ≡ false
-known_plus = refl
+pub known_lone_zero : begins_plain (codes "0") ≡ true
+known_lone_zero = refl
 
 -- ---- counts of faults
 pub known_rise : Rose 2 3

@@ -1,3 +1,5 @@
+pub mod Limits
+pub mod Scales
 pub mod Names
 pub mod Numerals
 pub mod Causes

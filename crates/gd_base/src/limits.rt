@@ -1,4 +1,5 @@
-//! The limits of input and certificates. Lengths are in units of 0.1 micrometre.
+//! The limits of input and certificates. Lengths are in units of 0.1 micrometre. Clauses cite `specs/Limits.antt`, which
+//! has the same numbers.
 
 /// The greatest size of a coordinate, in units: 0.8 metre to each side.
 pub const COORDINATE: i64 = 8_000_000;
@@ -21,7 +22,7 @@ pub const FILE_BYTES: usize = 134_217_728;
 /// The most bytes of a name.
 pub const NAME_BYTES: usize = 32;
 
-/// The most groups that a certificate tells of.
+/// The most groups that a certificate states.
 pub const GROUPS: u32 = 300_000;
 
 /// The most bytes of the name of a requirement in a certificate.

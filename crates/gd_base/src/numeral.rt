@@ -1,34 +1,64 @@
 // Whole numbers as words spell them.
-ghost use Rattle.std.specs.Prelude.{◌≡◌, ◌-◌, ◌^◌};
-ghost use Rattle.gd_base.specs.Numerals.{IsNumberIn, has_plain_front};
+ghost use Rattle.std.specs.Prelude.{◌≡◌, ◌<◌, ◌≤◌, ◌+◌, ◌*◌, ◌-◌, ◌^◌, true, length};
+ghost use Rattle.gd_base.specs.Numerals.{IsNumberIn, begins_plain, digits_from, is_digit};
 
-/// The number up to `limit` that a text spells: `0`, or decimal digits of which the first is no zero.
-/// It is none for every other text, one with a sign or a leading zero among them. `docs/FORMATS.md` has the rule.
-pub fn plain_number(text: &str, limit: u64) -> Option<u64>
-    ensures { IsNumberIn text.now limit result }
+// The most digits whose number surely fits 64 bits.
+const DIGITS: usize = 19;
+
+/// The number up to `limit` that a word spells: `0`, or decimal digits of which the first is no zero.
+/// It is none for every other word, one with a sign or a leading zero among them. `docs/FORMATS.md` has the rule.
+#[inline]
+pub fn plain_number(word: &[u8], limit: u64) -> Option<u64>
+    requires { limit < 10 ^ 19 }
+    ensures { IsNumberIn word.now limit result }
 {
-    let number = spelled(text)?;
+    if DIGITS < word.len() || !begins_plain(word) {
+        return None;
+    }
+    let number = read_digits(word)?;
     if number <= limit { Some(number) } else { None }
 }
 
-// The number that a text spells. `parse` alone would also take a plus and leading zeros.
-fn spelled(text: &str) -> Option<u64>
-    ensures { IsNumberIn text.now (2 ^ 64 - 1) result }
+/// Whether a byte is one of `0` to `9`.
+#[inline(always)]
+pub fn is_digit(byte: u8) -> bool
+    ensures { result ≡ is_digit byte }
 {
-    if !is_plain(text.as_bytes()) {
-        return None;
-    }
-    match text.parse::<u64>() {
-        Ok(number) => Some(number),
-        Err(_) => None,
-    }
+    byte.is_ascii_digit()
 }
 
-// Whether a text begins neither with a plus nor with a zero that something follows.
-fn is_plain(text: &[u8]) -> bool
-    ensures { result ≡ has_plain_front text.now }
+// Whether a word is neither empty nor begins with a zero that something follows.
+#[inline(always)]
+fn begins_plain(word: &[u8]) -> bool
+    ensures { result ≡ begins_plain word.now }
 {
-    !matches!(text, [b'+', ..] | [b'0', _, ..])
+    !matches!(word, [] | [b'0', _, ..])
+}
+
+// A number with one digit more.
+#[inline(always)]
+fn with_digit(number: u64, byte: u8) -> u64
+    requires small { number < 10 ^ 18 }
+    requires digit { is_digit byte ≡ true }
+    ensures { result ≡ 10 * number + (byte - 48) }
+{
+    10 * number + u64::from(byte - b'0')
+}
+
+// The number that digits write, or none where another byte stands among them.
+#[inline(always)]
+fn read_digits(word: &[u8]) -> Option<u64>
+    requires { length word.now ≤ 19 }
+    ensures { result ≡ digits_from 0 word.now }
+{
+    let mut number = 0;
+    for byte in word {
+        if !is_digit(*byte) {
+            return None;
+        }
+        number = with_digit(number, *byte);
+    }
+    Some(number)
 }
 
 #[cfg(test)]
@@ -52,7 +82,7 @@ mod tests {
             ("18446744073709551617", None),
         ];
         for (text, number) in cases {
-            assert_eq!(rt; plain_number(text, 1_000_000), number, "{text}");
+            assert_eq!(rt; plain_number(text.as_bytes(), 1_000_000), number, "{text}");
         }
     }
 }

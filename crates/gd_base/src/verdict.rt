@@ -9,24 +9,26 @@ pub enum Reason {
     Floor,
 }
 
+/// Where a search stood when it ended without a verdict. Levels count how often cells were halved, from 0 on.
+#[derive(Clone, Copy, Debug, PartialEq, Eq)]
+pub struct Counts {
+    pub level: u32,
+    /// The undecided cells of that level.
+    pub undecided: u32,
+    /// The cells that were split before that level.
+    pub spent: u32,
+    pub reason: Reason,
+}
+
 /// What a search found. Levels count how often cells were halved, from 0 on.
 #[derive(Clone, Copy, Debug, PartialEq, Eq)]
 pub enum Verdict {
     /// At this level the centre of a cell holds.
-    Accept {
-        level: u32,
-    },
+    Accept { level: u32 },
     /// Every cell was refuted, and so many were.
-    Reject {
-        leaves: u32,
-    },
-    /// Neither: so many cells were undecided at this level, and so many had been split before.
-    StillOpen {
-        level: u32,
-        undecided: u32,
-        spent: u32,
-        reason: Reason,
-    },
+    Reject { leaves: u32 },
+    /// Neither.
+    StillOpen(Counts),
 }
 
 /// The status that a run ends with, 0 to 8. `docs/FORMATS.md` says where each comes.

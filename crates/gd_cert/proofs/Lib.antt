@@ -12,4 +12,3 @@ pub mod Split
 pub mod Again
 pub mod Alike
 mod KnownReadings
-pub mod Digits

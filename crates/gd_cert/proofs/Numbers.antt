@@ -6,7 +6,7 @@ use Rattle.std.specs.Fmt.{signed_decimal}
 use Rattle.std.specs.List.{All, list_all}
 use Rattle.std.specs.Str.Parse.{AllDigits, digits_value}
 use Rattle.std.proofs.lemmas.Bool.Decides.{nat_tests}
-use Rattle.std.proofs.lemmas.Fmt.{decimal_nonempty, digits_decimal, digits_value-decimal, IsAscii-decimal}
+use Rattle.std.proofs.lemmas.Fmt.{decimal_nonempty, digits_decimal, digits_value-decimal}
 use Rattle.std.proofs.lemmas.List.Elements.{All-from_get_or}
 use Rattle.std.proofs.lemmas.List.Sums.{AllPass-from_list_all}
 use Rattle.std.proofs.lemmas.Option.{cond_some}
@@ -51,14 +51,6 @@ none_of (Some x) h = absurd (h x refl)
 pub number_is : (limit : ℕ) (word : List ℕ) (r : Option ℕ) → 1 ≤ limit → limit ≤ 2 ^ 63 → IsNumberIn word (limit - 1) r → r ≡ number_below limit word
 number_is limit word None some few h = none_of (number_below limit word) (λ n e. let (lt, is) = below_spelled limit word n e in h n (omega arith) is)
 number_is limit word (Some n) some few h = rw h.1 (sym (below_again limit n few (omega arith)))
-
-decimal-utf8 : (n : ℕ) → n < 2 ^ 63 → IsUtf8 (decimal n)
-decimal-utf8 n h = IsUtf8-from_ascii (decimal n) (IsAscii-decimal n (omega arith))
-
--- what is no text is no number
-pub number_of_no_text : (limit : ℕ) (word : List ℕ) → limit ≤ 2 ^ 63 → (IsUtf8 word → ⊥) → None ≡ number_below limit word
-number_of_no_text limit word few other =
-    none_of (number_below limit word) (λ n e. let (lt, is) = below_spelled limit word n e in other (subst IsUtf8 (sym is) (decimal-utf8 n (omega arith))))
 
 differs : (b c : ℕ) → b ≢ c → (b == c) ≡ false
 differs b c other = grind (arith, nat_tests)

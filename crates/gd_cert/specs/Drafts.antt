@@ -1,5 +1,5 @@
 -- For the proof of the reader, and cited by its private functions alone: what its values stand for.
-use Rattle.std.specs.Prelude.{ℕ, ◌≡◌, ◌<◌, ◌+◌, ◌*◌, ◌-◌, Bool, true, false, not, ◌==◌, nat_le, ◌&&◌, if◌then◌else◌, List, [], ◌∷◌, Option, Some, None, Result, Ok, Err, length, map}
+use Rattle.std.specs.Prelude.{ℕ, ◌≡◌, ◌<◌, List, [], ◌∷◌, Option, Some, None, Result, Ok, Err, length, map}
 use Rattle.std.specs.Borrow.{Bor}
 use Rattle.gd_cert.specs.Certificates.{body_of, heading_of}
 use Rattle.gd_cert.specs.Reading.{Draft, Placed, with_line}
@@ -12,21 +12,6 @@ use Rattle.gd_cert.specs.declared.fault.CertReadFault.TheVariants as read_fault
 use Rattle.gd_cert.specs.declared.rule.LineFault.{LineFault}
 use Rattle.gd_cert.specs.declared.rule.LineFault.TheVariants as line_fault
 use Rattle.gd_cert.specs.declared.rule.Rule.{Rule}
-
--- `0` to `9`
-abbrev pub is_digit : ℕ → Bool
-is_digit b = nat_le 48 b && nat_le b 57
-
--- a word is neither empty nor begins with a zero that something follows
-abbrev pub begins_plain : List ℕ → Bool
-begins_plain [] = false
-begins_plain (b ∷ []) = true
-begins_plain (b ∷ c ∷ bs) = not (b == 48)
-
--- the number that digits write behind those of n, or none where another byte stands among them
-abbrev pub digits_from : ℕ → List ℕ → Option ℕ
-digits_from n [] = Some n
-digits_from n (b ∷ bs) = if is_digit b then digits_from (10 * n + (b - 48)) bs else None
 
 -- the words that slices are
 abbrev pub texts : List (Bor (List ℕ)) → List (List ℕ)

@@ -1,77 +1,15 @@
 // The numbers that words spell.
 ghost use Rattle.std.specs.Prelude.{◌≡◌, ◌<◌, ◌≤◌, ◌^◌, ◌*◌, ◌+◌, ◌-◌, true, IfSome, length, option_map, pos};
-ghost use Rattle.gd_cert.specs.Drafts.{Answers, begins_plain, digits_from, is_digit, texts};
+ghost use Rattle.gd_cert.specs.Drafts.{Answers, texts};
 ghost use Rattle.gd_cert.specs.Words.{below_zero, number_below, number_of, or_rule, signed_number, signed_numbers};
 ghost use Rattle.gd_cert.specs.declared.rule.Rule.TheVariants as rule;
 
 use crate::rule::{LineFault, Rule};
 use gd_base::plain_number;
 use std::alloc::Global;
-use std::str;
 
 // The sizes of a witness's numbers are below this.
 const SIZE_LIMIT: u64 = 1 << 62;
-
-/// The most digits whose number surely fits 64 bits.
-const SHORT: usize = 18;
-
-#[inline(always)]
-fn is_figure(byte: u8) -> bool
-    ensures { result ≡ is_digit byte }
-{
-    matches!(byte, b'0'..=b'9')
-}
-
-// A number with one digit more.
-#[inline(always)]
-fn with_figure(number: u64, byte: u8) -> u64
-    requires small { number < 100000000000000000 }
-    requires digit { is_digit byte ≡ true }
-    ensures { result ≡ 10 * number + (byte - 48) }
-{
-    10 * number + u64::from(byte - b'0')
-}
-
-// The number that some digits write, or none where another byte stands among them.
-#[inline(always)]
-fn read_digits(word: &[u8]) -> Option<u64>
-    requires { length word.now ≤ 18 }
-    ensures { result ≡ digits_from 0 word.now }
-{
-    let mut number = 0;
-    for byte in word {
-        if !is_figure(*byte) {
-            return None;
-        }
-        number = with_figure(number, *byte);
-    }
-    Some(number)
-}
-
-// Whether a word is neither empty nor begins with a zero that something follows.
-#[inline(always)]
-fn begins_plain(word: &[u8]) -> bool
-    ensures { result ≡ begins_plain word.now }
-{
-    !matches!(word, [] | [b'0', _, ..])
-}
-
-// The number below the limit that a short word spells. It is read digit by digit: most words of a certificate are short.
-#[inline(always)]
-fn read_short(word: &[u8], limit: u64) -> Option<u64>
-    requires few { limit ≤ 2 ^ 63 }
-    requires short { length word.now ≤ 18 }
-    ensures is { result ≡ number_below limit word.now }
-    ensures small { IfSome result (λ n. n < limit) }
-{
-    if !begins_plain(word) {
-        return None;
-    }
-    match read_digits(word) {
-        None => None,
-        Some(number) => { if number < limit { Some(number) } else { None } }
-    }
-}
 
 /// The number below the limit that a word spells.
 #[inline]
@@ -81,13 +19,7 @@ pub(crate) fn read_below(word: &[u8], limit: u64) -> Option<u64>
     ensures is { result ≡ number_below limit word.now }
     ensures small { IfSome result (λ n. n < limit) }
 {
-    if word.len() <= SHORT {
-        return read_short(word, limit);
-    }
-    match str::from_utf8(word) {
-        Ok(text) => plain_number(text, limit - 1),
-        Err(_) => None,
-    }
+    plain_number(word, limit - 1)
 }
 
 /// The number below 2^32 that a word spells.

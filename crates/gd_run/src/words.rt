@@ -17,8 +17,8 @@ fn flat_command<'a>(
 ) -> Option<Command<'a>>
     ensures { IsFlatOf points.now tolerance.now budget.now (option_map (λ w. w.now) certificate.entry) (option_map ask_of result) }
 {
-    let tolerance = plain_number(tolerance, u64::from(TOLERANCE))?;
-    let budget = plain_number(budget, u64::from(BUDGET))?;
+    let tolerance = plain_number(tolerance.as_bytes(), u64::from(TOLERANCE))?;
+    let budget = plain_number(budget.as_bytes(), u64::from(BUDGET))?;
     if budget == 0 {
         return None;
     }
@@ -34,7 +34,7 @@ fn flat_command<'a>(
 fn check_command<'a>(points: &'a str, tolerance: &str, certificate: &'a str) -> Option<Command<'a>>
     ensures { IsCheckOf points.now tolerance.now certificate.now (option_map ask_of result) }
 {
-    let tolerance = plain_number(tolerance, u64::from(TOLERANCE))?;
+    let tolerance = plain_number(tolerance.as_bytes(), u64::from(TOLERANCE))?;
     Some(Command::Check(CheckCommand {
         points,
         tolerance: tolerance as u32,

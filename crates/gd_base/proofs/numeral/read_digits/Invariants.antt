@@ -1,6 +1,6 @@
 use Rattle.std.proofs.Common.{◌≡◌, ◌<◌, ◌^◌, drop}
-use Rattle.gd_cert.specs.Drafts.{digits_from}
-use Rattle.gd_cert.proofs.number.read_digits.Given as goal
+use Rattle.gd_base.specs.Numerals.{digits_from}
+use Rattle.gd_base.proofs.numeral.read_digits.Given as goal
 
 abbrev pub invariant-loop-byte : goal.invariant-loop-byte
 invariant-loop-byte l = record {
