@@ -1,0 +1,4 @@
+pub mod Boxes
+pub mod Conditions
+pub mod Tests
+pub mod Values
