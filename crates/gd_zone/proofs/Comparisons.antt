@@ -1,5 +1,5 @@
 -- What the comparisons of a written test say of exact values, and the other way round.
-use Rattle.std.proofs.Common.{◌≡◌, refl, sym, ap, subst, ◌∙◌, ℕ, zero, suc, ◌+◌, ◌*◌, ◌^◌, ◌<◌, ◌≤◌, List, [], ◌∷◌, Bool, true, false, ◌==◌, arith, unsigned_abs, inl, inr}
+use Rattle.std.proofs.Common.{◌≡◌, refl, sym, ap, subst, ◌∙◌, ℕ, zero, suc, ◌+◌, ◌*◌, ◌^◌, ◌<◌, ◌≤◌, List, [], ◌∷◌, Bool, true, false, ◌==◌, arith, unsigned_abs, inl, inr, ⊎_elim}
 use Rattle.std.proofs.lemmas.Int.{ints, by_lt_z}
 use Rattle.std.specs.Prelude.{ℤ, pos, neg_ℤ, ◌+ℤ◌, ◌-ℤ◌, ◌*ℤ◌, ◌≤ℤ◌, ◌<ℤ◌, ◌⊎◌, nat_le, if◌then◌else◌}
 use Rattle.gd_int.proofs.Comparisons.{AtMost-below, AtMost-above, AtMost-scale, AtMost-unscale, RootAtMost-from_difference, RootAtMost-to_difference, RootAtMost-scale, RootAtMost-unscale}
@@ -7,7 +7,10 @@ use Rattle.gd_int.proofs.Integers.{mul_le_out, mul_le_right, mul_le_right_pos, m
 use Rattle.gd_int.specs.Comparisons.{AtMost, RootAtMost}
 use Rattle.gd_quat.proofs.Polynomials.{Poly, var, num, ◌⊕◌, ◌⊖◌, ◌⊗◌, equal}
 use Rattle.gd_zone.specs.Conditions.{four, squared_bound, twice}
-use Rattle.gd_zone.specs.Tests.{root_above, root_below, square_bound}
+use Rattle.std.proofs.lemmas.Bool.{eqb-true, false≢true, leb-true}
+use Rattle.std.proofs.lemmas.Bool.Decides.{leb_tells}
+use Rattle.gd_quat.specs.Formulas.{Ends}
+use Rattle.gd_zone.specs.Tests.{farthest, nearest, root_above, root_below, square_bound}
 
 -- ---- along a direction: w over k is a distance, u its end in fine units, g is in half units
 -- 2^16 w = 2^15 (2 w), and k (g 2^15) = 2^15 (g k)
@@ -108,7 +111,38 @@ root-at_most-out p q x y ca cb h n k kp ca0 cb0 n0 h0 x0 y0 pa qb px qy a =
     AtMost-unscale (x -ℤ y) (h *ℤ pos (2 ^ 15)) n kk (omega (arith, ints)) (subst (λ z. AtMost z (kk *ℤ (h *ℤ pos (2 ^ 15))) n) (sym (apart x y kk)) r)
 
 -- ---- roots
-pub below-square : (a : ℕ) → root_below a * root_below a ≤ a
+below-step : (r n : ℕ) (b : Bool) → (b ≡ true → (r + 1) * (r + 1) ≤ n) → r * r ≤ n → (if b then r + 1 else r) * (if b then r + 1 else r) ≤ n
+below-step r n true f h = f refl
+below-step r n false f h = h
+
+below-square : (a : ℕ) → root_below a * root_below a ≤ a
 unfolding root_below
 below-square zero = omega arith
-below-square (suc a) = elim (nat_le ((root_below a + 1) * (root_below a + 1)) (suc a)) as (λ b. (if b then root_below a + 1 else root_below a) * (if b then root_below a + 1 else root_below a) ≤ suc a) [ true ↦ ? | false ↦ omega (arith, below-square a) ]
+below-square (suc a) = below-step (root_below a) (suc a) (nat_le ((root_below a + 1) * (root_below a + 1)) (suc a)) (leb-true ((root_below a + 1) * (root_below a + 1)) (suc a)) (omega (arith, below-square a))
+
+next-step : (r a : ℕ) (b : Bool) → (b ≡ false → suc a < (r + 1) * (r + 1)) → a < (r + 1) * (r + 1) → suc a < ((if b then r + 1 else r) + 1) * ((if b then r + 1 else r) + 1)
+next-step r a true f h = omega arith
+next-step r a false f h = f refl
+
+leb-false : (a b : ℕ) → nat_le a b ≡ false → b < a
+leb-false a b h = ⊎_elim (λ t. absurd (false≢true (sym h ∙ t.0))) (λ t. t.1) (leb_tells a b)
+
+below-next : (a : ℕ) → a < (root_below a + 1) * (root_below a + 1)
+unfolding root_below
+below-next zero = omega arith
+below-next (suc a) = next-step (root_below a) a (nat_le ((root_below a + 1) * (root_below a + 1)) (suc a)) (leb-false ((root_below a + 1) * (root_below a + 1)) (suc a)) (below-next a)
+
+above-step : (r a : ℕ) (b : Bool) → (b ≡ true → r * r ≡ a) → a < (r + 1) * (r + 1) → a ≤ (if b then r else r + 1) * (if b then r else r + 1)
+above-step r a true f h = let e : r * r ≡ a = f refl in omega (arith, e)
+above-step r a false f h = omega arith
+
+above-square : (a : ℕ) → a ≤ root_above a * root_above a
+unfolding root_above
+above-square a = above-step (root_below a) a (root_below a * root_below a == a) (eqb-true (root_below a * root_below a) a) (below-next a)
+
+-- the same of numbers with a sign
+pub nearest-below : (e : Ends) → pos 0 ≤ℤ e.lo → (nearest e *ℤ nearest e) ≤ℤ e.lo
+nearest-below e h = let b = below-square (unsigned_abs e.lo) in omega (arith, ints, b)
+
+pub farthest-above : (e : Ends) → pos 0 ≤ℤ e.hi → e.hi ≤ℤ (farthest e *ℤ farthest e)
+farthest-above e h = let b = above-square (unsigned_abs e.hi) in omega (arith, ints, b)

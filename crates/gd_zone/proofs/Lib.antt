@@ -1,3 +1,4 @@
 pub mod Comparisons
 pub mod Encloses
 pub mod Sizes
+pub mod Sound

@@ -1,9 +1,20 @@
 -- The written tests of a condition, on the ends of the values of its points.
-use Rattle.std.specs.Prelude.{ℕ, ℤ, zero, suc, pos, ◌+◌, ◌*◌, ◌^◌, ◌==◌, ◌&&◌, ◌||◌, ◌+ℤ◌, ◌-ℤ◌, ◌*ℤ◌, Bool, true, false, Option, Some, None, List, int_le, nat_le, unsigned_abs, if◌then◌else◌}
+use Rattle.std.specs.Prelude.{ℕ, ℤ, zero, suc, pos, ◌+◌, ◌*◌, ◌^◌, ◌==◌, ◌&&◌, ◌||◌, ◌+ℤ◌, ◌-ℤ◌, ◌*ℤ◌, Bool, true, false, Option, Some, None, List, filter, map, ◌≡◌, int_le, nat_le, unsigned_abs, if◌then◌else◌}
 use Rattle.std.specs.List.{list_all, list_any}
 use Rattle.std.specs.Ordering.{is_ge, is_le}
 use Rattle.gd_int.specs.Roots.{cmp_root_of}
+use Rattle.gd_points.specs.declared.table.Row.{Row}
 use Rattle.gd_quat.specs.Formulas.{Ends}
+use Rattle.gd_quat.specs.Placements.{IsPlacement, Placement}
+use Rattle.gd_vec.specs.Vector.{difference, norm2_of}
+use Rattle.gd_vec.specs.declared.vector.V3.{V3}
+use Rattle.gd_zone.specs.Boxes.{HoldsPlacement, PlacedEnds, placed_ends}
+use Rattle.gd_zone.specs.Conditions.{IsCondition, Meets, belongs, is_of_feature}
+use Rattle.gd_zone.specs.Values.{value_ends}
+use Rattle.gd_zone.specs.declared.condition.Condition.{Condition}
+use Rattle.gd_zone.specs.declared.condition.Surface.{Surface}
+use Rattle.gd_zone.specs.declared.condition.Surface.TheVariants.{Plane, Axis, Ball}
+use Rattle.gd_zone.specs.declared.placed.Placed.{Placed}
 use Rattle.gd_zone.specs.declared.condition.Demand.{Demand}
 use Rattle.gd_zone.specs.declared.condition.Demand.TheVariants.{Within, Spread, Contact, HugInner, HugOuter}
 
@@ -61,3 +72,22 @@ distance_holds (Spread t) n vs all = list_all (λ a. list_all (λ b. is_at_most 
 distance_holds (Contact hi) n vs all = false
 distance_holds (HugInner slack) n vs all = list_any (λ a. list_all (λ b. is_at_most (farthest a -ℤ nearest b) slack n) all) vs
 distance_holds (HugOuter slack) n vs all = list_any (λ a. list_all (λ b. is_at_most (farthest b -ℤ nearest a) slack n) all) vs
+
+-- ---- a condition at a box of placements
+abbrev pub surface_holds : Surface → Demand → List Ends → List Ends → Bool
+surface_holds (Plane direction point) demand vs all = plane_holds demand (norm2_of direction) vs
+surface_holds (Axis direction point) demand vs all = distance_holds demand (norm2_of direction) vs all
+surface_holds (Ball point) demand vs all = distance_holds demand (pos 1) vs all
+
+-- the ends of the value of a point, where the part's first point is at base
+abbrev pub ends_at : PlacedEnds → V3 → Condition → Row → Ends
+ends_at b base c row = value_ends c.surface b c.offset (difference row.at base)
+
+unfoldable pub condition_holds : PlacedEnds → V3 → List Row → Condition → Bool
+condition_holds b base rows c =
+    surface_holds c.surface c.demand (map (ends_at b base c) (filter (belongs c) rows)) (map (ends_at b base c) (filter (is_of_feature c) rows))
+
+-- a condition that holds so is met at every placement of the box
+abbrev pub TestsAreSound : Type 0
+TestsAreSound = (b : Placed) (p : Placement) (base : V3) (rows : List Row) (c : Condition) → IsPlacement p → HoldsPlacement b p → IsCondition c
+    → condition_holds (placed_ends b) base rows c ≡ true → Meets p base rows c
