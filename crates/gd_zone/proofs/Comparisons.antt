@@ -1,11 +1,11 @@
 -- What the comparisons of a written test say of exact values, and the other way round.
-use Rattle.std.proofs.Common.{◌≡◌, refl, sym, ap, subst, ◌∙◌, ℕ, zero, suc, ◌+◌, ◌*◌, ◌^◌, ◌<◌, ◌≤◌, List, [], ◌∷◌, Bool, true, false, ◌==◌, arith, unsigned_abs, inl, inr, ⊎_elim}
-use Rattle.std.proofs.lemmas.Int.{ints, by_lt_z}
-use Rattle.std.specs.Prelude.{ℤ, pos, neg_ℤ, ◌+ℤ◌, ◌-ℤ◌, ◌*ℤ◌, ◌≤ℤ◌, ◌<ℤ◌, ◌⊎◌, nat_le, if◌then◌else◌}
-use Rattle.gd_int.proofs.Comparisons.{AtMost-below, AtMost-above, AtMost-scale, AtMost-unscale, RootAtMost-from_difference, RootAtMost-to_difference, RootAtMost-scale, RootAtMost-unscale}
-use Rattle.gd_int.proofs.Integers.{mul_le_out, mul_le_right, mul_le_right_pos, mul_nonneg, ≤ℤ_trans}
+use Rattle.std.proofs.Common.{◌≡◌, refl, sym, subst, ◌∙◌, ℕ, zero, suc, ◌+◌, ◌*◌, ◌^◌, ◌<◌, ◌≤◌, [], ◌∷◌, Bool, true, false, ◌==◌, arith, unsigned_abs, ⊎_elim}
+use Rattle.std.proofs.lemmas.Int.{ints}
+use Rattle.std.specs.Prelude.{ℤ, pos, ◌-ℤ◌, ◌*ℤ◌, ◌≤ℤ◌, nat_le, if◌then◌else◌}
+use Rattle.gd_int.proofs.Comparisons.{AtMost-below, AtMost-scale, AtMost-unscale, RootAtMost-from_difference, RootAtMost-to_difference, RootAtMost-scale, RootAtMost-unscale}
+use Rattle.gd_int.proofs.Integers.{mul_le_out, mul_le_right_pos, mul_nonneg, ≤ℤ_trans}
 use Rattle.gd_int.specs.Comparisons.{AtMost, RootAtMost}
-use Rattle.gd_quat.proofs.Polynomials.{Poly, var, num, ◌⊕◌, ◌⊖◌, ◌⊗◌, equal}
+use Rattle.gd_quat.proofs.Polynomials.{var, num, ◌⊖◌, ◌⊗◌, equal}
 use Rattle.gd_zone.specs.Conditions.{four, squared_bound, twice}
 use Rattle.std.proofs.lemmas.Bool.{eqb-true, false≢true, leb-true}
 use Rattle.std.proofs.lemmas.Bool.Decides.{leb_tells}
@@ -45,7 +45,7 @@ square-at_most e c h n k i j =
     let m : (e *ℤ pos (k * k)) ≤ℤ (square_bound h n *ℤ pos (k * k)) = mul_le_right_pos e (square_bound h n) (k * k) j in
     let l : pos (2 ^ 32) *ℤ c ≡ four c *ℤ pos (2 ^ 30) = equal (c ∷ []) (num (pos (2 ^ 32)) ⊗ var 0) ((num (pos 4) ⊗ var 0) ⊗ num (pos (2 ^ 30))) refl in
     let r : square_bound h n *ℤ pos (k * k) ≡ squared_bound h (pos k) n *ℤ pos (2 ^ 30) =
-        equal (h ∷ n ∷ pos k ∷ []) ((((var 0 ⊗ var 0) ⊗ var 1) ⊗ num (pos (2 ^ 30))) ⊗ (var 2 ⊗ var 2)) ((((var 0 ⊗ var 0) ⊗ var 1) ⊗ (var 2 ⊗ var 2)) ⊗ num (pos (2 ^ 30))) refl in
+    equal (h ∷ n ∷ pos k ∷ []) ((((var 0 ⊗ var 0) ⊗ var 1) ⊗ num (pos (2 ^ 30))) ⊗ (var 2 ⊗ var 2)) ((((var 0 ⊗ var 0) ⊗ var 1) ⊗ (var 2 ⊗ var 2)) ⊗ num (pos (2 ^ 30))) refl in
     mul_le_out (four c) (squared_bound h (pos k) n) (pos (2 ^ 30)) (omega (arith, ints))
     (subst (λ z. z ≤ℤ (squared_bound h (pos k) n *ℤ pos (2 ^ 30))) l (subst (λ z. (pos (2 ^ 32) *ℤ c) ≤ℤ z) r (≤ℤ_trans (pos (2 ^ 32) *ℤ c) (e *ℤ pos (k * k)) (square_bound h n *ℤ pos (k * k)) i m)))
 
@@ -54,7 +54,7 @@ square-at_least e c h n k i j =
     let m : (square_bound h n *ℤ pos (k * k)) ≤ℤ (e *ℤ pos (k * k)) = mul_le_right_pos (square_bound h n) e (k * k) j in
     let l : pos (2 ^ 32) *ℤ c ≡ four c *ℤ pos (2 ^ 30) = equal (c ∷ []) (num (pos (2 ^ 32)) ⊗ var 0) ((num (pos 4) ⊗ var 0) ⊗ num (pos (2 ^ 30))) refl in
     let r : square_bound h n *ℤ pos (k * k) ≡ squared_bound h (pos k) n *ℤ pos (2 ^ 30) =
-        equal (h ∷ n ∷ pos k ∷ []) ((((var 0 ⊗ var 0) ⊗ var 1) ⊗ num (pos (2 ^ 30))) ⊗ (var 2 ⊗ var 2)) ((((var 0 ⊗ var 0) ⊗ var 1) ⊗ (var 2 ⊗ var 2)) ⊗ num (pos (2 ^ 30))) refl in
+    equal (h ∷ n ∷ pos k ∷ []) ((((var 0 ⊗ var 0) ⊗ var 1) ⊗ num (pos (2 ^ 30))) ⊗ (var 2 ⊗ var 2)) ((((var 0 ⊗ var 0) ⊗ var 1) ⊗ (var 2 ⊗ var 2)) ⊗ num (pos (2 ^ 30))) refl in
     mul_le_out (squared_bound h (pos k) n) (four c) (pos (2 ^ 30)) (omega (arith, ints))
     (subst (λ z. z ≤ℤ (four c *ℤ pos (2 ^ 30))) r (subst (λ z. (square_bound h n *ℤ pos (k * k)) ≤ℤ z) l (≤ℤ_trans (square_bound h n *ℤ pos (k * k)) (e *ℤ pos (k * k)) (pos (2 ^ 32) *ℤ c) m i)))
 
@@ -87,7 +87,7 @@ root-at_most p q x y ca cb h n k ca0 cb0 n0 h0 x0 y0 pa qb px qy a =
     let up : (pos (2 ^ 32) *ℤ ca) ≤ℤ ((kk *ℤ x) *ℤ (kk *ℤ x)) = subst (λ z. (pos (2 ^ 32) *ℤ ca) ≤ℤ z) (squared-times x k) (≤ℤ_trans (pos (2 ^ 32) *ℤ ca) (p *ℤ pos (k * k)) ((x *ℤ x) *ℤ pos (k * k)) pa (mul_le_right_pos p (x *ℤ x) (k * k) px)) in
     let down : ((kk *ℤ y) *ℤ (kk *ℤ y)) ≤ℤ (pos (2 ^ 32) *ℤ cb) = subst (λ z. z ≤ℤ (pos (2 ^ 32) *ℤ cb)) (squared-times y k) (≤ℤ_trans ((y *ℤ y) *ℤ pos (k * k)) (q *ℤ pos (k * k)) (pos (2 ^ 32) *ℤ cb) (mul_le_right_pos (y *ℤ y) q (k * k) qy) qb) in
     let r = RootAtMost-from_difference (pos (2 ^ 32) *ℤ ca) (pos (2 ^ 32) *ℤ cb) (kk *ℤ x) (kk *ℤ y) (kk *ℤ (h *ℤ pos (2 ^ 15))) n
-            (fine-nonneg cb cb0) n0 (mul_nonneg kk (h *ℤ pos (2 ^ 15)) k0 (half-nonneg h h0)) (mul_nonneg kk x k0 x0) (mul_nonneg kk y k0 y0) up down s in
+    (fine-nonneg cb cb0) n0 (mul_nonneg kk (h *ℤ pos (2 ^ 15)) k0 (half-nonneg h h0)) (mul_nonneg kk x k0 x0) (mul_nonneg kk y k0 y0) up down s in
     RootAtMost-unscale (four ca) (four cb) (squared_bound h kk n) (pos (2 ^ 30)) (omega (arith, ints))
     (subst (λ z. RootAtMost z (pos (2 ^ 30) *ℤ four cb) (pos (2 ^ 30) *ℤ squared_bound h kk n)) (scaled-root ca)
     (subst (λ z. RootAtMost (pos (2 ^ 32) *ℤ ca) z (pos (2 ^ 30) *ℤ squared_bound h kk n)) (scaled-root cb)
@@ -101,13 +101,13 @@ root-at_most-out p q x y ca cb h n k kp ca0 cb0 n0 h0 x0 y0 pa qb px qy a =
     let kk : ℤ = pos k in
     let k0 : pos 0 ≤ℤ kk = omega (arith, ints) in
     let s : RootAtMost (pos (2 ^ 32) *ℤ ca) (pos (2 ^ 32) *ℤ cb) (((kk *ℤ (h *ℤ pos (2 ^ 15))) *ℤ (kk *ℤ (h *ℤ pos (2 ^ 15)))) *ℤ n) =
-        subst (λ z. RootAtMost z (pos (2 ^ 32) *ℤ cb) (((kk *ℤ (h *ℤ pos (2 ^ 15))) *ℤ (kk *ℤ (h *ℤ pos (2 ^ 15)))) *ℤ n)) (sym (scaled-root ca))
-        (subst (λ z. RootAtMost (pos (2 ^ 30) *ℤ four ca) z (((kk *ℤ (h *ℤ pos (2 ^ 15))) *ℤ (kk *ℤ (h *ℤ pos (2 ^ 15)))) *ℤ n)) (sym (scaled-root cb))
-        (subst (λ z. RootAtMost (pos (2 ^ 30) *ℤ four ca) (pos (2 ^ 30) *ℤ four cb) z) (sym (scaled-bound h n kk)) (RootAtMost-scale (four ca) (four cb) (squared_bound h kk n) (pos (2 ^ 30)) (omega (arith, ints)) a))) in
+    subst (λ z. RootAtMost z (pos (2 ^ 32) *ℤ cb) (((kk *ℤ (h *ℤ pos (2 ^ 15))) *ℤ (kk *ℤ (h *ℤ pos (2 ^ 15)))) *ℤ n)) (sym (scaled-root ca))
+    (subst (λ z. RootAtMost (pos (2 ^ 30) *ℤ four ca) z (((kk *ℤ (h *ℤ pos (2 ^ 15))) *ℤ (kk *ℤ (h *ℤ pos (2 ^ 15)))) *ℤ n)) (sym (scaled-root cb))
+    (subst (λ z. RootAtMost (pos (2 ^ 30) *ℤ four ca) (pos (2 ^ 30) *ℤ four cb) z) (sym (scaled-bound h n kk)) (RootAtMost-scale (four ca) (four cb) (squared_bound h kk n) (pos (2 ^ 30)) (omega (arith, ints)) a))) in
     let up : ((kk *ℤ x) *ℤ (kk *ℤ x)) ≤ℤ (pos (2 ^ 32) *ℤ ca) = subst (λ z. z ≤ℤ (pos (2 ^ 32) *ℤ ca)) (squared-times x k) (≤ℤ_trans ((x *ℤ x) *ℤ pos (k * k)) (p *ℤ pos (k * k)) (pos (2 ^ 32) *ℤ ca) (mul_le_right_pos (x *ℤ x) p (k * k) px) pa) in
     let down : (pos (2 ^ 32) *ℤ cb) ≤ℤ ((kk *ℤ y) *ℤ (kk *ℤ y)) = subst (λ z. (pos (2 ^ 32) *ℤ cb) ≤ℤ z) (squared-times y k) (≤ℤ_trans (pos (2 ^ 32) *ℤ cb) (q *ℤ pos (k * k)) ((y *ℤ y) *ℤ pos (k * k)) qb (mul_le_right_pos q (y *ℤ y) (k * k) qy)) in
     let r = RootAtMost-to_difference (pos (2 ^ 32) *ℤ ca) (pos (2 ^ 32) *ℤ cb) (kk *ℤ x) (kk *ℤ y) (kk *ℤ (h *ℤ pos (2 ^ 15))) n
-            (fine-nonneg cb cb0) n0 (mul_nonneg kk (h *ℤ pos (2 ^ 15)) k0 (half-nonneg h h0)) (mul_nonneg kk x k0 x0) (mul_nonneg kk y k0 y0) up down s in
+    (fine-nonneg cb cb0) n0 (mul_nonneg kk (h *ℤ pos (2 ^ 15)) k0 (half-nonneg h h0)) (mul_nonneg kk x k0 x0) (mul_nonneg kk y k0 y0) up down s in
     AtMost-unscale (x -ℤ y) (h *ℤ pos (2 ^ 15)) n kk (omega (arith, ints)) (subst (λ z. AtMost z (kk *ℤ (h *ℤ pos (2 ^ 15))) n) (sym (apart x y kk)) r)
 
 -- ---- roots

@@ -1,22 +1,22 @@
 -- The values of points hold the exact ones.
-use Rattle.std.proofs.Common.{◌≡◌, refl, sym, ap, subst, ◌∙◌, ℕ, ◌*◌, ◌^◌, List, [], ◌∷◌, Bool, true, false, ◌==◌, arith}
+use Rattle.std.proofs.Common.{◌≡◌, refl, sym, subst, ℕ, ◌*◌, ◌^◌, [], ◌∷◌, Bool, true, false, ◌==◌, arith}
 use Rattle.std.proofs.lemmas.Int.{ints}
-use Rattle.std.specs.Prelude.{ℤ, pos, ◌+ℤ◌, ◌-ℤ◌, ◌*ℤ◌, ◌≤ℤ◌, ◌<ℤ◌, if◌then◌else◌}
+use Rattle.std.specs.Prelude.{ℤ, pos, ◌+ℤ◌, ◌-ℤ◌, ◌*ℤ◌, ◌≤ℤ◌, if◌then◌else◌}
 use Rattle.gd_int.proofs.Integers.{mul_le_out}
 use Rattle.gd_interval.proofs.Encloses.{difference_inside, multiple_inside, narrowed_inside, rescaled, square_inside, sum_inside}
 use Rattle.gd_interval.specs.Interval.{Inside}
 use Rattle.gd_interval.specs.declared.iv.Iv.{Iv}
-use Rattle.gd_quat.proofs.Polynomials.{Poly, var, num, ◌⊕◌, ◌⊖◌, ◌⊗◌, equal}
-use Rattle.gd_quat.specs.Boxes.{HoldsMatrix, HoldsVector}
+use Rattle.gd_quat.proofs.Polynomials.{var, num, ◌⊕◌, ◌⊖◌, ◌⊗◌, equal}
+use Rattle.gd_quat.specs.Boxes.{HoldsVector}
 use Rattle.gd_quat.specs.Formulas.{Ends, VectorEnds, alone, difference, ends, moved_formula, multiple, row_formula, square, sum, vector_ends}
-use Rattle.gd_quat.specs.Placements.{IsPlacement, Placement, denominator_of, image_of, image_under, offset_of, plus, times}
-use Rattle.gd_quat.specs.Rotations.{Matrix, matrix_of, norm_of}
+use Rattle.gd_quat.specs.Placements.{Placement, denominator_of, image_of, image_under, plus, times}
+use Rattle.gd_quat.specs.Rotations.{matrix_of, norm_of}
 use Rattle.gd_quat.specs.declared.shape.VecBox.{VecBox}
 use Rattle.gd_vec.specs.Vector.{dot_of, norm2_of}
 use Rattle.gd_vec.specs.declared.vector.V3.{V3}
-use Rattle.gd_zone.specs.Boxes.{HoldsPlacement, PlacedEnds, placed_ends}
+use Rattle.gd_zone.specs.Boxes.{HoldsPlacement, placed_ends}
 use Rattle.gd_zone.specs.Conditions.{cross, exact_value, from_surface}
-use Rattle.gd_zone.specs.Values.{EnclosesValue, HoldsValue, across, along, from_point, image_ends, squares_of, still_image, surface_value, value_ends}
+use Rattle.gd_zone.specs.Values.{EnclosesValue, across, along, from_point, image_ends, squares_of, still_image, value_ends}
 use Rattle.gd_zone.specs.declared.condition.Surface.{Surface}
 use Rattle.gd_zone.specs.declared.condition.Surface.TheVariants.{Plane, Axis, Ball}
 use Rattle.gd_zone.specs.declared.placed.Placed.{Placed}
@@ -59,12 +59,12 @@ still-inside m by row v n s t h i =
     let a : Ends = row_formula (vector_ends m) v in
     let w : ℤ = dot_of row v in
     let d : dot_of (times (pos (2 ^ 30)) row) v ≡ (pos (2 ^ 16) *ℤ w) *ℤ pos (2 ^ 14) =
-        equal (row.x ∷ row.y ∷ row.z ∷ v.x ∷ v.y ∷ v.z ∷ []) ((num (pos (2 ^ 30)) ⊗ var 0) ⊗ var 3 ⊕ (num (pos (2 ^ 30)) ⊗ var 1) ⊗ var 4 ⊕ (num (pos (2 ^ 30)) ⊗ var 2) ⊗ var 5)
-        ((num (pos (2 ^ 16)) ⊗ (var 0 ⊗ var 3 ⊕ var 1 ⊗ var 4 ⊕ var 2 ⊗ var 5)) ⊗ num (pos (2 ^ 14))) refl in
+    equal (row.x ∷ row.y ∷ row.z ∷ v.x ∷ v.y ∷ v.z ∷ []) ((num (pos (2 ^ 30)) ⊗ var 0) ⊗ var 3 ⊕ (num (pos (2 ^ 30)) ⊗ var 1) ⊗ var 4 ⊕ (num (pos (2 ^ 30)) ⊗ var 2) ⊗ var 5)
+    ((num (pos (2 ^ 16)) ⊗ (var 0 ⊗ var 3 ⊕ var 1 ⊗ var 4 ⊕ var 2 ⊗ var 5)) ⊗ num (pos (2 ^ 14))) refl in
     let b : Inside a.lo a.hi n (pos (2 ^ 16) *ℤ w) = cut a.lo a.hi (pos (2 ^ 16) *ℤ w) n (subst (λ z. Inside a.lo a.hi (n * 2 ^ 14) z) d (row-inside m v (times (pos (2 ^ 30)) row) n h)) in
     let c = sum_inside a.lo a.hi by.lo by.hi (n * s) ((pos (2 ^ 16) *ℤ w) *ℤ pos s) (pos (2 ^ 16) *ℤ (pos n *ℤ t)) (rescaled a.lo a.hi n s (pos (2 ^ 16) *ℤ w) b) (over-both by n s t i) in
     let g : (pos (2 ^ 16) *ℤ w) *ℤ pos s +ℤ pos (2 ^ 16) *ℤ (pos n *ℤ t) ≡ pos (2 ^ 16) *ℤ (pos s *ℤ w +ℤ pos n *ℤ t) =
-        equal (w ∷ pos s ∷ t ∷ pos n ∷ []) ((num (pos (2 ^ 16)) ⊗ var 0) ⊗ var 1 ⊕ num (pos (2 ^ 16)) ⊗ (var 3 ⊗ var 2)) (num (pos (2 ^ 16)) ⊗ (var 1 ⊗ var 0 ⊕ var 3 ⊗ var 2)) refl in
+    equal (w ∷ pos s ∷ t ∷ pos n ∷ []) ((num (pos (2 ^ 16)) ⊗ var 0) ⊗ var 1 ⊕ num (pos (2 ^ 16)) ⊗ (var 3 ⊗ var 2)) (num (pos (2 ^ 16)) ⊗ (var 1 ⊗ var 0 ⊕ var 3 ⊗ var 2)) refl in
     subst (λ z. Inside (a.lo +ℤ by.lo) (a.hi +ℤ by.hi) (n * s) z) g c
 
 -- with an offset too, and with none
@@ -128,7 +128,7 @@ less-inside : (x : Ends) (k : ℕ) (w a : ℤ) → Inside x.lo x.hi k (pos (2 ^ 
 less-inside x k w a h =
     let c : ℤ = pos (2 ^ 16) *ℤ a in
     let g : pos (2 ^ 16) *ℤ w -ℤ c *ℤ pos k ≡ pos (2 ^ 16) *ℤ (w -ℤ pos k *ℤ a) =
-        equal (w ∷ a ∷ pos k ∷ []) (num (pos (2 ^ 16)) ⊗ var 0 ⊖ (num (pos (2 ^ 16)) ⊗ var 1) ⊗ var 2) (num (pos (2 ^ 16)) ⊗ (var 0 ⊖ var 2 ⊗ var 1)) refl in
+    equal (w ∷ a ∷ pos k ∷ []) (num (pos (2 ^ 16)) ⊗ var 0 ⊖ (num (pos (2 ^ 16)) ⊗ var 1) ⊗ var 2) (num (pos (2 ^ 16)) ⊗ (var 0 ⊖ var 2 ⊗ var 1)) refl in
     subst (λ z. Inside (x.lo -ℤ c) (x.hi -ℤ c) k z) g (difference_inside x.lo x.hi c c k (pos (2 ^ 16) *ℤ w) (c *ℤ pos k) h (self (c *ℤ pos k), self (c *ℤ pos k)))
   where
     self : (z : ℤ) → z ≤ℤ z
@@ -148,8 +148,8 @@ along-held d z y k h =
     let v : ℤ = (pos (2 ^ 16) *ℤ z.y) *ℤ d.y in
     let w : ℤ = (pos (2 ^ 16) *ℤ z.z) *ℤ d.z in
     let g : (u +ℤ v) +ℤ w ≡ pos (2 ^ 16) *ℤ dot_of d z =
-        equal (d.x ∷ d.y ∷ d.z ∷ z.x ∷ z.y ∷ z.z ∷ []) (((num (pos (2 ^ 16)) ⊗ var 3) ⊗ var 0 ⊕ (num (pos (2 ^ 16)) ⊗ var 4) ⊗ var 1) ⊕ (num (pos (2 ^ 16)) ⊗ var 5) ⊗ var 2)
-        (num (pos (2 ^ 16)) ⊗ (var 0 ⊗ var 3 ⊕ var 1 ⊗ var 4 ⊕ var 2 ⊗ var 5)) refl in
+    equal (d.x ∷ d.y ∷ d.z ∷ z.x ∷ z.y ∷ z.z ∷ []) (((num (pos (2 ^ 16)) ⊗ var 3) ⊗ var 0 ⊕ (num (pos (2 ^ 16)) ⊗ var 4) ⊗ var 1) ⊕ (num (pos (2 ^ 16)) ⊗ var 5) ⊗ var 2)
+    (num (pos (2 ^ 16)) ⊗ (var 0 ⊗ var 3 ⊕ var 1 ⊗ var 4 ⊕ var 2 ⊗ var 5)) refl in
     subst (λ t. Inside ((a.lo +ℤ b.lo) +ℤ c.lo) ((a.hi +ℤ b.hi) +ℤ c.hi) k t) g
     (sum_inside (sum a b).lo (sum a b).hi c.lo c.hi k (u +ℤ v) w
     (sum_inside a.lo a.hi b.lo b.hi k u v (multiple_inside y.x.lo y.x.hi d.x k (pos (2 ^ 16) *ℤ z.x) h.x) (multiple_inside y.y.lo y.y.hi d.y k (pos (2 ^ 16) *ℤ z.y) h.y))
@@ -161,7 +161,7 @@ minor-inside y z d e u v k h i =
     let a : Ends = multiple y d in
     let b : Ends = multiple z e in
     let g : (pos (2 ^ 16) *ℤ u) *ℤ d -ℤ (pos (2 ^ 16) *ℤ v) *ℤ e ≡ pos (2 ^ 16) *ℤ (d *ℤ u -ℤ e *ℤ v) =
-        equal (d ∷ e ∷ u ∷ v ∷ []) ((num (pos (2 ^ 16)) ⊗ var 2) ⊗ var 0 ⊖ (num (pos (2 ^ 16)) ⊗ var 3) ⊗ var 1) (num (pos (2 ^ 16)) ⊗ (var 0 ⊗ var 2 ⊖ var 1 ⊗ var 3)) refl in
+    equal (d ∷ e ∷ u ∷ v ∷ []) ((num (pos (2 ^ 16)) ⊗ var 2) ⊗ var 0 ⊖ (num (pos (2 ^ 16)) ⊗ var 3) ⊗ var 1) (num (pos (2 ^ 16)) ⊗ (var 0 ⊗ var 2 ⊖ var 1 ⊗ var 3)) refl in
     subst (λ t. Inside (a.lo -ℤ b.hi) (a.hi -ℤ b.lo) k t) g
     (difference_inside a.lo a.hi b.lo b.hi k ((pos (2 ^ 16) *ℤ u) *ℤ d) ((pos (2 ^ 16) *ℤ v) *ℤ e) (multiple_inside y.lo y.hi d k (pos (2 ^ 16) *ℤ u) h) (multiple_inside z.lo z.hi e k (pos (2 ^ 16) *ℤ v) i))
 
@@ -183,25 +183,36 @@ squares-held z y k h =
     let v : ℤ = (pos (2 ^ 16) *ℤ z.y) *ℤ (pos (2 ^ 16) *ℤ z.y) in
     let w : ℤ = (pos (2 ^ 16) *ℤ z.z) *ℤ (pos (2 ^ 16) *ℤ z.z) in
     let g : (u +ℤ v) +ℤ w ≡ pos (2 ^ 32) *ℤ norm2_of z =
-        equal (z.x ∷ z.y ∷ z.z ∷ []) (((num (pos (2 ^ 16)) ⊗ var 0) ⊗ (num (pos (2 ^ 16)) ⊗ var 0) ⊕ (num (pos (2 ^ 16)) ⊗ var 1) ⊗ (num (pos (2 ^ 16)) ⊗ var 1)) ⊕ (num (pos (2 ^ 16)) ⊗ var 2) ⊗ (num (pos (2 ^ 16)) ⊗ var 2))
-        (num (pos (2 ^ 32)) ⊗ (var 0 ⊗ var 0 ⊕ var 1 ⊗ var 1 ⊕ var 2 ⊗ var 2)) refl in
+    equal (z.x ∷ z.y ∷ z.z ∷ []) (((num (pos (2 ^ 16)) ⊗ var 0) ⊗ (num (pos (2 ^ 16)) ⊗ var 0) ⊕ (num (pos (2 ^ 16)) ⊗ var 1) ⊗ (num (pos (2 ^ 16)) ⊗ var 1)) ⊕ (num (pos (2 ^ 16)) ⊗ var 2) ⊗ (num (pos (2 ^ 16)) ⊗ var 2))
+    (num (pos (2 ^ 32)) ⊗ (var 0 ⊗ var 0 ⊕ var 1 ⊗ var 1 ⊕ var 2 ⊗ var 2)) refl in
     subst (λ t. Inside ((a.lo +ℤ b.lo) +ℤ c.lo) ((a.hi +ℤ b.hi) +ℤ c.hi) (k * k) t) g
     (sum_inside (sum a b).lo (sum a b).hi c.lo c.hi (k * k) (u +ℤ v) w
     (sum_inside a.lo a.hi b.lo b.hi (k * k) u v (square_inside y.x.lo y.x.hi k (pos (2 ^ 16) *ℤ z.x) h.x) (square_inside y.y.lo y.y.hi k (pos (2 ^ 16) *ℤ z.y) h.y))
     (square_inside y.z.lo y.z.hi k (pos (2 ^ 16) *ℤ z.z) h.z))
 
 -- ---- the value of a point
+-- the ends hold the exact value
+abbrev pub ValueInside : Surface → Ends → Placement → ℕ → V3 → Type 0
+ValueInside (Plane d a) e p offset v = Inside e.lo e.hi (denominator_of p) (pos (2 ^ 16) *ℤ exact_value (Plane d a) p offset v)
+ValueInside (Axis d a) e p offset v = Inside e.lo e.hi (denominator_of p * denominator_of p) (pos (2 ^ 32) *ℤ exact_value (Axis d a) p offset v)
+ValueInside (Ball a) e p offset v = Inside e.lo e.hi (denominator_of p * denominator_of p) (pos (2 ^ 32) *ℤ exact_value (Ball a) p offset v)
+
+pub inside-value : (s : Surface) (b : Placed) (offset : ℕ) (v : V3) (p : Placement) → HoldsPlacement b p → ValueInside s (value_ends s (placed_ends b) offset v) p offset v
+inside-value (Plane d a) b offset v p h =
+    let k : ℕ = denominator_of p in
+    let x : VectorEnds = image_ends (placed_ends b) offset v in
+    along-held d (from_surface p offset a v) (from_point x a) k (less-held x k (image_under p offset v) a (image-held b p h v offset))
+inside-value (Axis d a) b offset v p h =
+    let k : ℕ = denominator_of p in
+    let x : VectorEnds = image_ends (placed_ends b) offset v in
+    let y : VectorEnds = from_point x a in
+    squares-held (cross d (from_surface p offset a v)) (across d y) k (across-held d (from_surface p offset a v) y k (less-held x k (image_under p offset v) a (image-held b p h v offset)))
+inside-value (Ball a) b offset v p h =
+    let k : ℕ = denominator_of p in
+    let x : VectorEnds = image_ends (placed_ends b) offset v in
+    squares-held (from_surface p offset a v) (from_point x a) k (less-held x k (image_under p offset v) a (image-held b p h v offset))
+
 pub encloses-value : (s : Surface) (b : Placed) (offset : ℕ) (v : V3) (r : Iv) → ends r ≡ value_ends s (placed_ends b) offset v → EnclosesValue s b offset v r
-encloses-value (Plane d a) b offset v r e p ok h =
-    let k : ℕ = denominator_of p in
-    subst (λ t. Inside t.lo t.hi k (pos (2 ^ 16) *ℤ dot_of d (from_surface p offset a v))) (sym e)
-    (along-held d (from_surface p offset a v) (from_point (image_ends (placed_ends b) offset v) a) k (less-held (image_ends (placed_ends b) offset v) k (image_under p offset v) a (image-held b p h v offset)))
-encloses-value (Axis d a) b offset v r e p ok h =
-    let k : ℕ = denominator_of p in
-    let y : VectorEnds = from_point (image_ends (placed_ends b) offset v) a in
-    subst (λ t. Inside t.lo t.hi (k * k) (pos (2 ^ 32) *ℤ norm2_of (cross d (from_surface p offset a v)))) (sym e)
-    (squares-held (cross d (from_surface p offset a v)) (across d y) k (across-held d (from_surface p offset a v) y k (less-held (image_ends (placed_ends b) offset v) k (image_under p offset v) a (image-held b p h v offset))))
-encloses-value (Ball a) b offset v r e p ok h =
-    let k : ℕ = denominator_of p in
-    subst (λ t. Inside t.lo t.hi (k * k) (pos (2 ^ 32) *ℤ norm2_of (from_surface p offset a v))) (sym e)
-    (squares-held (from_surface p offset a v) (from_point (image_ends (placed_ends b) offset v) a) k (less-held (image_ends (placed_ends b) offset v) k (image_under p offset v) a (image-held b p h v offset)))
+encloses-value (Plane d a) b offset v r e p ok h = subst (λ t. ValueInside (Plane d a) t p offset v) (sym e) (inside-value (Plane d a) b offset v p h)
+encloses-value (Axis d a) b offset v r e p ok h = subst (λ t. ValueInside (Axis d a) t p offset v) (sym e) (inside-value (Axis d a) b offset v p h)
+encloses-value (Ball a) b offset v r e p ok h = subst (λ t. ValueInside (Ball a) t p offset v) (sym e) (inside-value (Ball a) b offset v p h)

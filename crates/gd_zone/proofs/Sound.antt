@@ -1,12 +1,12 @@
 -- A condition that holds by its written test is met at every placement of the box.
-use Rattle.std.proofs.Common.{◌≡◌, refl, sym, ap, subst, ◌∙◌, ℕ, zero, suc, ◌+◌, ◌*◌, ◌^◌, ◌<◌, ◌≤◌, List, [], ◌∷◌, map, filter, length, Bool, true, false, ◌&&◌, ◌||◌, Option, Some, None, arith, unsigned_abs, inl, inr, ⊎_elim}
+use Rattle.std.proofs.Common.{◌≡◌, refl, sym, subst, ℕ, suc, ◌*◌, ◌^◌, List, [], ◌∷◌, map, Bool, true, false, ◌&&◌, ◌||◌, Option, Some, None, arith, inl, inr, ⊎_elim}
 use Rattle.std.proofs.lemmas.Bool.{false≢true}
 use Rattle.std.proofs.lemmas.Float.{T_from_true}
 use Rattle.std.proofs.lemmas.Int.{ints}
 use Rattle.std.proofs.lemmas.List.Elements.{All-cons, All-nil}
-use Rattle.std.specs.List.{All, Any, list_all, list_any, slice_index_or}
+use Rattle.std.specs.List.{All, Any, list_all, list_any}
 use Rattle.std.specs.Option.{IfSome}
-use Rattle.std.specs.Prelude.{ℤ, pos, neg_ℤ, ◌+ℤ◌, ◌-ℤ◌, ◌*ℤ◌, ◌≤ℤ◌, ◌<ℤ◌, ◌⊎◌, int_le}
+use Rattle.std.specs.Prelude.{ℤ, pos, neg_ℤ, ◌-ℤ◌, ◌*ℤ◌, ◌≤ℤ◌, ◌⊎◌, int_le}
 use Rattle.gd_int.proofs.Integers.{mul-sub_left, neg-mul_left}
 use Rattle.gd_int.proofs.Orders.{at_least_from_cmp, at_most_from_cmp}
 use Rattle.gd_int.specs.Comparisons.{AtMost, RootAtMost}
@@ -86,9 +86,11 @@ module _ (n : ℤ) (k : ℕ) (e : Row → Ends) (x : Row → ℤ) (holds : (r : 
       low : (r : Row) (o : Option ℤ) → passes (λ l. is_at_least (e r).lo l n) o ≡ true → IfSome o (λ l. AtMost (neg_ℤ (twice (x r))) (neg_ℤ (l *ℤ pos k)) n)
       low r None t = tt {0}
       low r (Some l) t = lower r l t
-  plane-sound (Spread t) rows bound h =
-      (bound.0, all-sound (λ a. list_all (λ b. is_at_most (a.hi -ℤ b.lo) t n) (map e rows)) (λ a. All (λ b. AtMost (twice (a -ℤ b)) (t *ℤ pos k) n) (map x rows)) e x rows
-      (λ a i. all-sound (λ b. is_at_most ((e a).hi -ℤ b.lo) t n) (λ b. AtMost (twice (x a -ℤ b)) (t *ℤ pos k) n) e x rows (λ b j. apart a b t j) i) h)
+  plane-sound (Spread t) rows bound h = (
+    bound.0,
+    all-sound (λ a. list_all (λ b. is_at_most (a.hi -ℤ b.lo) t n) (map e rows)) (λ a. All (λ b. AtMost (twice (a -ℤ b)) (t *ℤ pos k) n) (map x rows)) e x rows
+        (λ a i. all-sound (λ b. is_at_most ((e a).hi -ℤ b.lo) t n) (λ b. AtMost (twice (x a -ℤ b)) (t *ℤ pos k) n) e x rows (λ b j. apart a b t j) i) h,
+  )
   plane-sound (Contact hi) rows bound h = any-sound (λ v. is_at_most v.hi hi n) (λ s. AtMost (twice s) (hi *ℤ pos k) n) e x rows (λ r t. upper r hi t) h
   plane-sound (HugInner slack) rows bound h = absurd (false≢true h)
   plane-sound (HugOuter slack) rows bound h = absurd (false≢true h)
@@ -108,24 +110,34 @@ module _ (n : ℤ) (n0 : pos 0 ≤ℤ n) (k : ℕ) (e : Row → Ends) (x : Row �
   unfolding distance_holds
   distance-sound (Within lo hi) rows all bound h =
       all-sound (distance_within lo hi n) (λ c. IfSome hi (λ g. (pos 0 ≤ℤ g) × (four c ≤ℤ squared_bound g (pos k) n)) × IfSome lo (λ l. (l ≤ℤ pos 0) ⊎ (squared_bound l (pos k) n ≤ℤ four c))) e x rows
-      (λ r t. (top r hi (and-left (passes (λ h. int_le (pos 0) h && int_le (e r).hi (square_bound h n)) hi) (passes (λ l. int_le l (pos 0) || int_le (square_bound l n) (e r).lo) lo) t),
-        low r lo (and-right (passes (λ h. int_le (pos 0) h && int_le (e r).hi (square_bound h n)) hi) (passes (λ l. int_le l (pos 0) || int_le (square_bound l n) (e r).lo) lo) t))) h
+      (λ r t. (
+        top r hi (and-left (passes (λ h. int_le (pos 0) h && int_le (e r).hi (square_bound h n)) hi) (passes (λ l. int_le l (pos 0) || int_le (square_bound l n) (e r).lo) lo) t),
+        low r lo (and-right (passes (λ h. int_le (pos 0) h && int_le (e r).hi (square_bound h n)) hi) (passes (λ l. int_le l (pos 0) || int_le (square_bound l n) (e r).lo) lo) t),
+      )) h
     where
       top : (r : Row) (o : Option ℤ) → passes (λ h. int_le (pos 0) h && int_le (e r).hi (square_bound h n)) o ≡ true → IfSome o (λ g. (pos 0 ≤ℤ g) × (four (x r) ≤ℤ squared_bound g (pos k) n))
       top r None t = tt {0}
-      top r (Some g) t = (le-true (pos 0) g (and-left (int_le (pos 0) g) (int_le (e r).hi (square_bound g n)) t),
-        square-at_most (e r).hi (x r) g n k (holds r).1 (le-true (e r).hi (square_bound g n) (and-right (int_le (pos 0) g) (int_le (e r).hi (square_bound g n)) t)))
+      top r (Some g) t = (
+        le-true (pos 0) g (and-left (int_le (pos 0) g) (int_le (e r).hi (square_bound g n)) t),
+        square-at_most (e r).hi (x r) g n k (holds r).1 (le-true (e r).hi (square_bound g n) (and-right (int_le (pos 0) g) (int_le (e r).hi (square_bound g n)) t)),
+      )
 
       low : (r : Row) (o : Option ℤ) → passes (λ l. int_le l (pos 0) || int_le (square_bound l n) (e r).lo) o ≡ true → IfSome o (λ l. (l ≤ℤ pos 0) ⊎ (squared_bound l (pos k) n ≤ℤ four (x r)))
       low r None t = tt {0}
       low r (Some l) t = ⊎_elim (λ u. inl (le-true l (pos 0) u)) (λ u. inr (square-at_least (e r).lo (x r) l n k (holds r).0 (le-true (square_bound l n) (e r).lo u))) (or-cases (int_le l (pos 0)) (int_le (square_bound l n) (e r).lo) t)
-  distance-sound (Spread t) rows all bound h =
-      (bound.0, all-sound (λ a. list_all (λ b. is_at_most (farthest a -ℤ nearest b) t n) (map e rows)) (λ a. All (λ b. RootAtMost (four a) (four b) (squared_bound t (pos k) n)) (map x rows)) e x rows
-      (λ a i. all-sound (λ b. is_at_most (farthest (e a) -ℤ nearest b) t n) (λ b. RootAtMost (four (x a)) (four b) (squared_bound t (pos k) n)) e x rows (λ b j. distances a b t bound.0 j) i) h)
+  distance-sound (Spread t) rows all bound h = (
+    bound.0,
+    all-sound (λ a. list_all (λ b. is_at_most (farthest a -ℤ nearest b) t n) (map e rows)) (λ a. All (λ b. RootAtMost (four a) (four b) (squared_bound t (pos k) n)) (map x rows)) e x rows
+        (λ a i. all-sound (λ b. is_at_most (farthest (e a) -ℤ nearest b) t n) (λ b. RootAtMost (four (x a)) (four b) (squared_bound t (pos k) n)) e x rows (λ b j. distances a b t bound.0 j) i) h,
+  )
   distance-sound (Contact hi) rows all bound h = absurd (false≢true h)
-  distance-sound (HugInner t) rows all bound h =
-      (bound.0, any-sound (λ a. list_all (λ b. is_at_most (farthest a -ℤ nearest b) t n) (map e all)) (λ a. All (λ b. RootAtMost (four a) (four b) (squared_bound t (pos k) n)) (map x all)) e x rows
-      (λ a i. all-sound (λ b. is_at_most (farthest (e a) -ℤ nearest b) t n) (λ b. RootAtMost (four (x a)) (four b) (squared_bound t (pos k) n)) e x all (λ b j. distances a b t bound.0 j) i) h)
-  distance-sound (HugOuter t) rows all bound h =
-      (bound.0, any-sound (λ a. list_all (λ b. is_at_most (farthest b -ℤ nearest a) t n) (map e all)) (λ a. All (λ b. RootAtMost (four b) (four a) (squared_bound t (pos k) n)) (map x all)) e x rows
-      (λ a i. all-sound (λ b. is_at_most (farthest b -ℤ nearest (e a)) t n) (λ b. RootAtMost (four b) (four (x a)) (squared_bound t (pos k) n)) e x all (λ b j. distances b a t bound.0 j) i) h)
+  distance-sound (HugInner t) rows all bound h = (
+    bound.0,
+    any-sound (λ a. list_all (λ b. is_at_most (farthest a -ℤ nearest b) t n) (map e all)) (λ a. All (λ b. RootAtMost (four a) (four b) (squared_bound t (pos k) n)) (map x all)) e x rows
+        (λ a i. all-sound (λ b. is_at_most (farthest (e a) -ℤ nearest b) t n) (λ b. RootAtMost (four (x a)) (four b) (squared_bound t (pos k) n)) e x all (λ b j. distances a b t bound.0 j) i) h,
+  )
+  distance-sound (HugOuter t) rows all bound h = (
+    bound.0,
+    any-sound (λ a. list_all (λ b. is_at_most (farthest b -ℤ nearest a) t n) (map e all)) (λ a. All (λ b. RootAtMost (four b) (four a) (squared_bound t (pos k) n)) (map x all)) e x rows
+        (λ a i. all-sound (λ b. is_at_most (farthest b -ℤ nearest (e a)) t n) (λ b. RootAtMost (four b) (four (x a)) (squared_bound t (pos k) n)) e x all (λ b j. distances b a t bound.0 j) i) h,
+  )

@@ -1,10 +1,9 @@
 -- Boxes of placements: the matrix, the translation and both offsets, and what they hold.
-use Rattle.std.specs.Prelude.{ℕ, ℤ, pos, ◌^◌, ◌*◌, ◌==◌, ◌*ℤ◌, if◌then◌else◌}
+use Rattle.std.specs.Prelude.{pos, ◌^◌}
 use Rattle.gd_quat.specs.Boxes.{HoldsMatrix, HoldsVector, MatrixFits, VectorFits, matrix_times}
-use Rattle.gd_quat.specs.Formulas.{Ends, MatrixEnds, VectorEnds, alone, difference, matrix_ends, moved_formula, multiple, square, sum, turned_formula, vector_ends}
+use Rattle.gd_quat.specs.Formulas.{MatrixEnds, VectorEnds, matrix_ends, vector_ends}
 use Rattle.gd_quat.specs.Placements.{Placement, times}
 use Rattle.gd_quat.specs.Rotations.{matrix_of, norm_of}
-use Rattle.gd_vec.specs.declared.vector.V3.{V3}
 use Rattle.gd_zone.specs.declared.placed.Placed.{Placed}
 
 -- a box holds a placement

@@ -1,5 +1,5 @@
 -- What a condition asks of the points of a placed part. Comparisons with roots are stated without a root.
-use Rattle.std.specs.Prelude.{ℕ, ℤ, pos, neg_ℤ, ◌≡◌, ◌≤◌, ◌<◌, ◌^◌, ◌==◌, ◌&&◌, ◌⊎◌, ◌+ℤ◌, ◌-ℤ◌, ◌*ℤ◌, ◌≤ℤ◌, Bool, true, false, Option, Some, None, List, map, filter, unsigned_abs}
+use Rattle.std.specs.Prelude.{ℕ, ℤ, pos, neg_ℤ, ◌≤◌, ◌^◌, ◌==◌, ◌&&◌, ◌⊎◌, ◌-ℤ◌, ◌*ℤ◌, ◌≤ℤ◌, Bool, true, Option, Some, None, List, map, filter, unsigned_abs}
 use Rattle.std.specs.List.{All, Any}
 use Rattle.std.specs.Option.{IfSome}
 use Rattle.gd_int.specs.Comparisons.{AtMost, RootAtMost}

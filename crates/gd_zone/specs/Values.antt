@@ -1,5 +1,5 @@
 -- The ends of the image of a point and of its value on a surface.
-use Rattle.std.specs.Prelude.{ℕ, ℤ, pos, ◌^◌, ◌*◌, ◌==◌, ◌*ℤ◌, if◌then◌else◌}
+use Rattle.std.specs.Prelude.{ℕ, pos, ◌^◌, ◌*◌, ◌==◌, ◌*ℤ◌, if◌then◌else◌}
 use Rattle.gd_interval.specs.Interval.{Inside}
 use Rattle.gd_interval.specs.declared.iv.Iv.{Iv}
 use Rattle.gd_quat.specs.Formulas.{Ends, VectorEnds, alone, difference, moved_formula, multiple, square, sum, turned_formula}

@@ -22,17 +22,17 @@ pub enum Demand {
     Spread { t: i64 },
     /// Twice the distance of some point of the group is at most `hi`: a plane datum feature touches its datum there.
     Contact { hi: i64 },
-    /// Some point of the group is at most `slack` half of a unit further from the axis than every point of the feature: a
-    /// hole touches its datum there.
+    /// Some point of the group is no further from the axis than any point of the feature, up to `slack`: a hole touches
+    /// its datum there.
     HugInner { slack: i64 },
-    /// Some point of the group is at most `slack` half of a unit nearer to the axis than every point of the feature: a pin
-    /// touches its datum there.
+    /// Some point of the group is no nearer to the axis than any point of the feature, up to `slack`: a pin touches its
+    /// datum there.
     HugOuter { slack: i64 },
 }
 
 /// A demand on the points of a feature, by the feature's number in the point table. `group` names the contact group of
-/// `Contact`, `HugInner` and `HugOuter`, where there always is one; for `Within` and `Spread` it limits the condition to the
-/// points of one group. `offset` is the offset of a placement that moves these points: 1 or 2, or 0 for none.
+/// `Contact`, `HugInner` and `HugOuter`, where there always is one; for `Within` and `Spread` it limits the condition to
+/// the points of one group. `offset` is the offset of a placement that moves these points: 1 or 2, or 0 for none.
 #[derive(Clone, Copy, Debug, PartialEq, Eq)]
 pub struct Condition {
     pub surface: Surface,

@@ -2,9 +2,11 @@
 #![tactic(auto)]
 
 mod condition;
+mod laws;
 mod placed;
 mod values;
 
 pub use condition::{Condition, Demand, Surface};
+pub use laws::tests_are_sound;
 pub use placed::{Placed, placed_at};
 pub use values::value;

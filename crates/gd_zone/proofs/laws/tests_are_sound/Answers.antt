@@ -1,0 +1,5 @@
+use Rattle.gd_zone.proofs.Meeting.{tests-are-sound}
+use Rattle.gd_zone.proofs.laws.tests_are_sound.Goals as goal
+
+pub returns : goal.returns
+returns c = tests-are-sound
