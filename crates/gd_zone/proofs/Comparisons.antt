@@ -1,16 +1,17 @@
 -- What the comparisons of a written test say of exact values, and the other way round.
-use Rattle.std.proofs.Common.{◌≡◌, refl, sym, subst, ◌∙◌, ℕ, zero, suc, ◌+◌, ◌*◌, ◌^◌, ◌<◌, ◌≤◌, [], ◌∷◌, Bool, true, false, ◌==◌, arith, unsigned_abs, ⊎_elim}
+use Rattle.std.proofs.Common.{◌≡◌, refl, sym, subst, ◌∙◌, ℕ, zero, suc, ◌+◌, ◌*◌, ◌^◌, ◌<◌, ◌≤◌, [], ◌∷◌, Bool, true, false, ◌==◌, arith, ⊎_elim}
 use Rattle.std.proofs.lemmas.Int.{ints}
-use Rattle.std.specs.Prelude.{ℤ, pos, ◌-ℤ◌, ◌*ℤ◌, ◌≤ℤ◌, nat_le, if◌then◌else◌}
+use Rattle.std.specs.Prelude.{ℤ, pos, negsuc, ◌-ℤ◌, ◌*ℤ◌, ◌≤ℤ◌, nat_le, if◌then◌else◌}
 use Rattle.gd_int.proofs.Comparisons.{AtMost-below, AtMost-scale, AtMost-unscale, RootAtMost-from_difference, RootAtMost-to_difference, RootAtMost-scale, RootAtMost-unscale}
 use Rattle.gd_int.proofs.Integers.{mul_le_out, mul_le_right_pos, mul_nonneg, ≤ℤ_trans}
 use Rattle.gd_int.specs.Comparisons.{AtMost, RootAtMost}
 use Rattle.gd_quat.proofs.Polynomials.{var, num, ◌⊖◌, ◌⊗◌, equal}
 use Rattle.gd_zone.specs.Conditions.{four, squared_bound, twice}
+use Rattle.std.proofs.Math.Nat.{mul-pos}
 use Rattle.std.proofs.lemmas.Bool.{eqb-true, false≢true, leb-true}
 use Rattle.std.proofs.lemmas.Bool.Decides.{leb_tells}
 use Rattle.gd_quat.specs.Formulas.{Ends}
-use Rattle.gd_zone.specs.Tests.{farthest, nearest, root_above, root_below, square_bound}
+use Rattle.gd_zone.specs.Tests.{ceil_root, farthest, floor_root, nearest, root_above, root_below, square_bound}
 
 -- ---- along a direction: w over k is a distance, u its end in fine units, g is in half units
 -- 2^16 w = 2^15 (2 w), and k (g 2^15) = 2^15 (g k)
@@ -57,6 +58,23 @@ square-at_least e c h n k i j =
     equal (h ∷ n ∷ pos k ∷ []) ((((var 0 ⊗ var 0) ⊗ var 1) ⊗ num (pos (2 ^ 30))) ⊗ (var 2 ⊗ var 2)) ((((var 0 ⊗ var 0) ⊗ var 1) ⊗ (var 2 ⊗ var 2)) ⊗ num (pos (2 ^ 30))) refl in
     mul_le_out (squared_bound h (pos k) n) (four c) (pos (2 ^ 30)) (omega (arith, ints))
     (subst (λ z. z ≤ℤ (four c *ℤ pos (2 ^ 30))) r (subst (λ z. (square_bound h n *ℤ pos (k * k)) ≤ℤ z) l (≤ℤ_trans (square_bound h n *ℤ pos (k * k)) (e *ℤ pos (k * k)) (pos (2 ^ 32) *ℤ c) m i)))
+
+-- the other way round
+pub square-at_most-out : (e c h n : ℤ) (k : ℕ) → 0 < k → (e *ℤ pos (k * k)) ≤ℤ (pos (2 ^ 32) *ℤ c) → four c ≤ℤ squared_bound h (pos k) n → e ≤ℤ square_bound h n
+square-at_most-out e c h n k p i j =
+    let l : four c *ℤ pos (2 ^ 30) ≡ pos (2 ^ 32) *ℤ c = equal (c ∷ []) ((num (pos 4) ⊗ var 0) ⊗ num (pos (2 ^ 30))) (num (pos (2 ^ 32)) ⊗ var 0) refl in
+    let r : squared_bound h (pos k) n *ℤ pos (2 ^ 30) ≡ square_bound h n *ℤ pos (k * k) =
+    equal (h ∷ n ∷ pos k ∷ []) ((((var 0 ⊗ var 0) ⊗ var 1) ⊗ (var 2 ⊗ var 2)) ⊗ num (pos (2 ^ 30))) ((((var 0 ⊗ var 0) ⊗ var 1) ⊗ num (pos (2 ^ 30))) ⊗ (var 2 ⊗ var 2)) refl in
+    let m : (pos (2 ^ 32) *ℤ c) ≤ℤ (square_bound h n *ℤ pos (k * k)) = subst (λ z. z ≤ℤ (square_bound h n *ℤ pos (k * k))) l (subst (λ z. (four c *ℤ pos (2 ^ 30)) ≤ℤ z) r (mul_le_right_pos (four c) (squared_bound h (pos k) n) (2 ^ 30) j)) in
+    mul_le_out e (square_bound h n) (pos (k * k)) (omega (arith, ints, mul-pos p p)) (≤ℤ_trans (e *ℤ pos (k * k)) (pos (2 ^ 32) *ℤ c) (square_bound h n *ℤ pos (k * k)) i m)
+
+pub square-at_least-out : (e c h n : ℤ) (k : ℕ) → 0 < k → (pos (2 ^ 32) *ℤ c) ≤ℤ (e *ℤ pos (k * k)) → squared_bound h (pos k) n ≤ℤ four c → square_bound h n ≤ℤ e
+square-at_least-out e c h n k p i j =
+    let l : four c *ℤ pos (2 ^ 30) ≡ pos (2 ^ 32) *ℤ c = equal (c ∷ []) ((num (pos 4) ⊗ var 0) ⊗ num (pos (2 ^ 30))) (num (pos (2 ^ 32)) ⊗ var 0) refl in
+    let r : squared_bound h (pos k) n *ℤ pos (2 ^ 30) ≡ square_bound h n *ℤ pos (k * k) =
+    equal (h ∷ n ∷ pos k ∷ []) ((((var 0 ⊗ var 0) ⊗ var 1) ⊗ (var 2 ⊗ var 2)) ⊗ num (pos (2 ^ 30))) ((((var 0 ⊗ var 0) ⊗ var 1) ⊗ num (pos (2 ^ 30))) ⊗ (var 2 ⊗ var 2)) refl in
+    let m : (square_bound h n *ℤ pos (k * k)) ≤ℤ (pos (2 ^ 32) *ℤ c) = subst (λ z. (square_bound h n *ℤ pos (k * k)) ≤ℤ z) l (subst (λ z. z ≤ℤ (four c *ℤ pos (2 ^ 30))) r (mul_le_right_pos (squared_bound h (pos k) n) (four c) (2 ^ 30) j)) in
+    mul_le_out (square_bound h n) e (pos (k * k)) (omega (arith, ints, mul-pos p p)) (≤ℤ_trans (square_bound h n *ℤ pos (k * k)) (pos (2 ^ 32) *ℤ c) (e *ℤ pos (k * k)) m i)
 
 -- ---- differences of distances: x is at least the root of a's upper end, and y at most that of b's lower end
 scaled-root : (c : ℤ) → pos (2 ^ 32) *ℤ c ≡ pos (2 ^ 30) *ℤ four c
@@ -141,8 +159,24 @@ unfolding root_above
 above-square a = above-step (root_below a) a (root_below a * root_below a == a) (eqb-true (root_below a * root_below a) a) (below-next a)
 
 -- the same of numbers with a sign
-pub nearest-below : (e : Ends) → pos 0 ≤ℤ e.lo → (nearest e *ℤ nearest e) ≤ℤ e.lo
-nearest-below e h = let b = below-square (unsigned_abs e.lo) in omega (arith, ints, b)
+floor-root_below : (z : ℤ) → pos 0 ≤ℤ z → (floor_root z *ℤ floor_root z) ≤ℤ z
+floor-root_below (pos a) h = let b = below-square a in omega (arith, ints, b)
+floor-root_below (negsuc a) h = absurd (omega (arith, ints, h))
 
-pub farthest-above : (e : Ends) → pos 0 ≤ℤ e.hi → e.hi ≤ℤ (farthest e *ℤ farthest e)
-farthest-above e h = let b = above-square (unsigned_abs e.hi) in omega (arith, ints, b)
+ceil-root_above : (z : ℤ) → z ≤ℤ (ceil_root z *ℤ ceil_root z)
+ceil-root_above (pos a) = let b = above-square a in omega (arith, ints, b)
+ceil-root_above (negsuc a) = omega (arith, ints)
+
+pub nearest-below : (e : Ends) → pos 0 ≤ℤ e.lo → (nearest e *ℤ nearest e) ≤ℤ e.lo
+nearest-below e h = floor-root_below e.lo h
+
+pub farthest-above : (e : Ends) → e.hi ≤ℤ (farthest e *ℤ farthest e)
+farthest-above e = ceil-root_above e.hi
+
+pub floor-root_sign : (z : ℤ) → pos 0 ≤ℤ floor_root z
+floor-root_sign (pos a) = omega (arith, ints)
+floor-root_sign (negsuc a) = omega (arith, ints)
+
+pub ceil-root_sign : (z : ℤ) → pos 0 ≤ℤ ceil_root z
+ceil-root_sign (pos a) = omega (arith, ints)
+ceil-root_sign (negsuc a) = omega (arith, ints)

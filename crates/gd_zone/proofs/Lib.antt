@@ -4,3 +4,4 @@ pub mod Meeting
 pub mod Ordered
 pub mod Sizes
 pub mod Sound
+pub mod Unmet

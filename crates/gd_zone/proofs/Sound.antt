@@ -13,7 +13,7 @@ use Rattle.gd_int.specs.Comparisons.{AtMost, RootAtMost}
 use Rattle.gd_interval.specs.Interval.{Inside}
 use Rattle.gd_points.specs.declared.table.Row.{Row}
 use Rattle.gd_quat.specs.Formulas.{Ends}
-use Rattle.gd_zone.proofs.Comparisons.{at-most, farthest-above, nearest-below, root-at_most, square-at_least, square-at_most}
+use Rattle.gd_zone.proofs.Comparisons.{at-most, ceil-root_sign, farthest-above, floor-root_sign, nearest-below, root-at_most, square-at_least, square-at_most}
 use Rattle.gd_zone.specs.Conditions.{DistanceDemand, HasBounds, PlaneDemand, four, squared_bound, twice}
 use Rattle.gd_zone.specs.Tests.{distance_holds, distance_within, farthest, is_at_least, is_at_most, nearest, passes, plane_holds, plane_within, square_bound}
 use Rattle.gd_zone.specs.declared.condition.Demand.{Demand}
@@ -100,11 +100,8 @@ module _ (n : ℤ) (n0 : pos 0 ≤ℤ n) (k : ℕ) (e : Row → Ends) (x : Row �
     (positive : (r : Row) → pos 0 ≤ℤ x r) (ordered : (r : Row) → (pos 0 ≤ℤ (e r).lo) × ((e r).lo ≤ℤ (e r).hi)) where
   distances : (a b : Row) (t : ℤ) → pos 0 ≤ℤ t → is_at_most (farthest (e a) -ℤ nearest (e b)) t n ≡ true → RootAtMost (four (x a)) (four (x b)) (squared_bound t (pos k) n)
   distances a b t p h =
-      root-at_most (e a).hi (e b).lo (farthest (e a)) (nearest (e b)) (x a) (x b) t n k (positive a) (positive b) n0 p (omega (arith, ints)) (omega (arith, ints)) (holds a).1 (holds b).0
-      (farthest-above (e a) (high (e a).lo (e a).hi (ordered a).0 (ordered a).1)) (nearest-below (e b) (ordered b).0) ((at_most_from_cmp (farthest (e a) -ℤ nearest (e b)) (t *ℤ pos (2 ^ 15)) n).0 h)
-    where
-      high : (u v : ℤ) → pos 0 ≤ℤ u → u ≤ℤ v → pos 0 ≤ℤ v
-      high u v h i = omega (arith, ints)
+      root-at_most (e a).hi (e b).lo (farthest (e a)) (nearest (e b)) (x a) (x b) t n k (positive a) (positive b) n0 p (ceil-root_sign (e a).hi) (floor-root_sign (e b).lo) (holds a).1 (holds b).0
+      (farthest-above (e a)) (nearest-below (e b) (ordered b).0) ((at_most_from_cmp (farthest (e a) -ℤ nearest (e b)) (t *ℤ pos (2 ^ 15)) n).0 h)
 
   pub distance-sound : (d : Demand) (rows all : List Row) → HasBounds d → distance_holds d n (map e rows) (map e all) ≡ true → DistanceDemand d (pos k) n (map x rows) (map x all)
   unfolding distance_holds

@@ -1,5 +1,5 @@
 -- The written tests of a condition, on the ends of the values of its points.
-use Rattle.std.specs.Prelude.{ℕ, ℤ, zero, suc, pos, ◌+◌, ◌*◌, ◌^◌, ◌==◌, ◌&&◌, ◌||◌, ◌-ℤ◌, ◌*ℤ◌, Bool, true, false, Option, Some, None, List, filter, map, ◌≡◌, int_le, nat_le, unsigned_abs, if◌then◌else◌}
+use Rattle.std.specs.Prelude.{ℕ, ℤ, zero, suc, pos, negsuc, ◌+◌, ◌*◌, ◌^◌, ◌==◌, ◌&&◌, ◌||◌, ◌-ℤ◌, ◌*ℤ◌, Bool, true, false, Option, Some, None, List, filter, map, ◌≡◌, int_le, nat_le, if◌then◌else◌}
 use Rattle.std.specs.List.{list_all, list_any}
 use Rattle.std.specs.Ordering.{is_ge, is_le}
 use Rattle.gd_int.specs.Roots.{cmp_root_of}
@@ -27,12 +27,21 @@ root_below (suc a) = if nat_le ((root_below a + 1) * (root_below a + 1)) (suc a)
 unfoldable pub root_above : ℕ → ℕ
 root_above a = if root_below a * root_below a == a then root_below a else root_below a + 1
 
--- the root of a squared distance, as far as its interval tells
+-- the same of a number with a sign, with 0 for those below 0
+abbrev pub floor_root : ℤ → ℤ
+floor_root (pos a) = pos (root_below a)
+floor_root (negsuc a) = pos 0
+
+abbrev pub ceil_root : ℤ → ℤ
+ceil_root (pos a) = pos (root_above a)
+ceil_root (negsuc a) = pos 0
+
+-- the least and the greatest distance, from the ends of its square
 abbrev pub nearest : Ends → ℤ
-nearest e = pos (root_below (unsigned_abs e.lo))
+nearest e = floor_root e.lo
 
 abbrev pub farthest : Ends → ℤ
-farthest e = pos (root_above (unsigned_abs e.hi))
+farthest e = ceil_root e.hi
 
 -- ---- comparisons with half units, of which one is 2^15 fine units
 -- s isn't more than h half units times the root of n, and isn't less

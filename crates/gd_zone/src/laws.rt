@@ -1,8 +1,10 @@
+ghost use Rattle.gd_zone.specs.Refutations.{RefutedIsUnmet};
 ghost use Rattle.gd_zone.specs.Tests.{TestsAreSound};
 
-/// A condition that holds by its written test over a box of placements is met at every placement of the box. It does
-/// nothing when it runs; a proof cites its clause.
+/// What the written tests of a condition mean over a box of placements: where it holds, it is met at every placement of
+/// the box, and where it is refuted, at none. It does nothing when it runs; a proof cites its clauses.
 #[inline(always)]
 pub fn tests_are_sound()
-    ensures { TestsAreSound }
+    ensures holds { TestsAreSound }
+    ensures refuted { RefutedIsUnmet }
 {}
