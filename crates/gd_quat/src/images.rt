@@ -1,0 +1,292 @@
+// Where the points of a part go.
+ghost use Rattle.std.specs.Prelude.{◌≡◌, ◌+◌, ◌*◌, ◌^◌, ◌≤◌, ℕ, unsigned_abs};
+ghost use Rattle.gd_quat.specs.Boxes.{EnclosesMoved, EnclosesTurned, Fits, HoldsImage, HoldsVector, HoldsRotation};
+ghost use Rattle.gd_quat.specs.Boxes.{IsRotationBox, MatrixFits, MatrixWidth, TurnedWidth, VectorFits};
+ghost use Rattle.gd_quat.specs.Formulas.{alone, ends, grid_ends, grid_image_formula, matrix_ends, moved_formula};
+ghost use Rattle.gd_quat.specs.Formulas.{multiple, point_ends, rotation_ends, row_formula, row_sum_formula, sum};
+ghost use Rattle.gd_quat.specs.Formulas.{turned_formula, vector_ends};
+ghost use Rattle.gd_quat.specs.Placements.{IsOnGrid, placement_of, rotation_at};
+ghost use Rattle.gd_vec.specs.Vector.{IsWithin};
+
+use crate::matrices::matrix;
+use crate::shape::{Assignment, MatrixBox, RotationBox, VecBox};
+use gd_interval::{Iv, add, narrow, point, scale};
+use gd_vec::V3;
+
+// 1 as a ratio. Ratios are in 2^-30.
+const ONE: i128 = 1 << 30;
+
+/// The boxes of both, added entry by entry, in the unit of both: images in fine units and a translation or an offset.
+#[inline]
+pub fn moved(a: &VecBox, by: &VecBox) -> VecBox
+    requires a { VectorFits (2 ^ 64) a.now }
+    requires by { VectorFits (2 ^ 64) by.now }
+    ensures ends { vector_ends result ≡ moved_formula (vector_ends a.now) (vector_ends by.now) }
+    ensures encloses { EnclosesMoved a.now by.now result }
+{
+    shifted(a, by)
+}
+
+// The sums, entry by entry.
+#[inline]
+fn shifted(a: &VecBox, by: &VecBox) -> VecBox
+    requires a { VectorFits (2 ^ 64) a.now }
+    requires by { VectorFits (2 ^ 64) by.now }
+    ensures { vector_ends result ≡ moved_formula (vector_ends a.now) (vector_ends by.now) }
+{
+    VecBox {
+        x: entry_sum(a.x, by.x),
+        y: entry_sum(a.y, by.y),
+        z: entry_sum(a.z, by.z),
+    }
+}
+
+// The sum of two entries.
+#[inline]
+fn entry_sum(a: Iv, b: Iv) -> Iv
+    requires a { Fits (2 ^ 64) a }
+    requires b { Fits (2 ^ 64) b }
+    ensures { ends result ≡ sum (ends a) (ends b) }
+{
+    add(a, b)
+}
+
+/// The box of the exact image of a point at a placement of the grid, in fine units of 2^-16 unit. `v` is the point less
+/// the part's first point, in units. Offsets of features are left out.
+pub fn image_box(a: &Assignment, v: &V3) -> VecBox
+    requires a { IsOnGrid a.now }
+    requires v { IsWithin (2 ^ 40) v.now }
+    ensures ends { vector_ends result ≡ grid_image_formula a.now v.now }
+    ensures encloses { HoldsImage result (placement_of a.now) v.now }
+{
+    let m = matrix(&grid_box(a));
+    moved(&turned(&m, v), &point_box(&a.shift))
+}
+
+/// The box that holds the rotation of a placement of the grid alone, in 2^-30.
+#[inline]
+pub fn grid_box(a: &Assignment) -> RotationBox
+    requires { IsOnGrid a.now }
+    ensures ends { rotation_ends result ≡ grid_ends a.now.face a.now.ratios }
+    ensures fits { IsRotationBox result }
+    ensures holds { HoldsRotation result (rotation_at a.now.face a.now.ratios) }
+{
+    box_at(a)
+}
+
+/// The box that holds one vector alone, in its unit.
+#[inline]
+pub fn point_box(v: &V3) -> VecBox
+    ensures ends { vector_ends result ≡ point_ends v.now }
+    ensures size { VectorFits (2 ^ 63) result }
+{
+    VecBox {
+        x: coordinate(v.x),
+        y: coordinate(v.y),
+        z: coordinate(v.z),
+    }
+}
+
+// One coordinate alone.
+#[inline]
+fn coordinate(z: i64) -> Iv
+    ensures ends { ends result ≡ alone z }
+    ensures size { Fits (2 ^ 63) result }
+{
+    point(i128::from(z))
+}
+
+/// The vector `v`, in units, turned by every matrix of a box in 2^-30: in fine units of 2^-16 unit.
+/// The products of a row are added exactly, and the sum loses 14 bits, outward.
+#[inline]
+pub fn turned(m: &MatrixBox, v: &V3) -> VecBox
+    requires m { MatrixFits (2 ^ 34) m.now }
+    requires v { IsWithin (2 ^ 40) v.now }
+    ensures ends { vector_ends result ≡ turned_formula (matrix_ends m.now) v.now }
+    ensures size { VectorFits (2 ^ 62) result }
+    ensures encloses { EnclosesTurned m.now v.now result }
+    ensures width { (w : ℕ) → MatrixWidth w m.now → TurnedWidth w v.now result }
+    ensures small { (n : ℕ) → MatrixFits (2 ^ 32) m.now → IsWithin n v.now → VectorFits (3 * 2 ^ 18 * n) result }
+{
+    rows(m, v)
+}
+
+// The three rows times the vector.
+#[inline]
+fn rows(m: &MatrixBox, v: &V3) -> VecBox
+    requires m { MatrixFits (2 ^ 34) m.now }
+    requires v { IsWithin (2 ^ 40) v.now }
+    ensures ends { vector_ends result ≡ turned_formula (matrix_ends m.now) v.now }
+    ensures size { VectorFits (2 ^ 62) result }
+{
+    VecBox {
+        x: row(&m.x, v),
+        y: row(&m.y, v),
+        z: row(&m.z, v),
+    }
+}
+
+// One row times the vector.
+#[inline]
+fn row(m: &VecBox, v: &V3) -> Iv
+    requires m { VectorFits (2 ^ 34) m.now }
+    requires v { IsWithin (2 ^ 40) v.now }
+    ensures ends { ends result ≡ row_formula (vector_ends m.now) v.now }
+    ensures size { Fits (2 ^ 62) result }
+{
+    narrow(row_sum(m, v), 14)
+}
+
+// The sum of the products of a row and the vector.
+#[inline]
+fn row_sum(m: &VecBox, v: &V3) -> Iv
+    requires m { VectorFits (2 ^ 34) m.now }
+    requires v { IsWithin (2 ^ 40) v.now }
+    ensures ends { ends result ≡ row_sum_formula (vector_ends m.now) v.now }
+    ensures size { Fits (3 * 2 ^ 74) result }
+{
+    add(add(scaled(m.x, v.x), scaled(m.y, v.y)), scaled(m.z, v.z))
+}
+
+// The product of an entry and a coordinate.
+#[inline]
+fn scaled(a: Iv, factor: i64) -> Iv
+    requires a { Fits (2 ^ 34) a }
+    requires factor { unsigned_abs factor ≤ 2 ^ 40 }
+    ensures ends { ends result ≡ multiple (ends a) factor }
+    ensures size { Fits (2 ^ 74) result }
+{
+    scale(a, i128::from(factor))
+}
+
+// One number alone.
+#[inline]
+fn ratio(z: i64) -> Iv
+    requires { unsigned_abs z ≤ 2 ^ 30 }
+    ensures ends { ends result ≡ alone z }
+    ensures size { Fits (2 ^ 30) result }
+{
+    coordinate(z)
+}
+
+// The leading component is 1, and the others are the ratios.
+#[inline]
+fn box_at(a: &Assignment) -> RotationBox
+    requires { IsOnGrid a.now }
+    ensures ends { rotation_ends result ≡ grid_ends a.now.face a.now.ratios }
+    ensures fits { IsRotationBox result }
+{
+    let one = point(ONE);
+    let (first, second, third) = (
+        ratio(a.ratios.first),
+        ratio(a.ratios.second),
+        ratio(a.ratios.third),
+    );
+    match a.face {
+        0 => RotationBox {
+            q0: one,
+            q1: first,
+            q2: second,
+            q3: third,
+        },
+        1 => RotationBox {
+            q0: first,
+            q1: one,
+            q2: second,
+            q3: third,
+        },
+        2 => RotationBox {
+            q0: first,
+            q1: second,
+            q2: one,
+            q3: third,
+        },
+        _ => RotationBox {
+            q0: first,
+            q1: second,
+            q2: third,
+            q3: one,
+        },
+    }
+}
+
+#[cfg(test)]
+mod tests {
+    use super::*;
+    use crate::shape::Ratios;
+
+    type Entries = (i64, i64, i64);
+
+    type Ends = (i128, i128);
+
+    // The ends of the box of the image of a point.
+    fn ends_at(face: u32, ratios: Entries, shift: Entries, at: Entries) -> (Ends, Ends, Ends)
+        requires face { face ≤ 3 }
+        requires first { unsigned_abs ratios.0 ≤ 2 ^ 30 }
+        requires second { unsigned_abs ratios.1 ≤ 2 ^ 30 }
+        requires third { unsigned_abs ratios.2 ≤ 2 ^ 30 }
+        requires point { IsWithin (2 ^ 40) (record { x = at.0; y = at.1; z = at.2 }) }
+    {
+        let shift = V3 {
+            x: shift.0,
+            y: shift.1,
+            z: shift.2,
+        };
+        let ratios = Ratios {
+            first: ratios.0,
+            second: ratios.1,
+            third: ratios.2,
+        };
+        let found = image_box(
+            &Assignment {
+                face,
+                ratios,
+                shift,
+                first: shift,
+                second: shift,
+            },
+            &V3 {
+                x: at.0,
+                y: at.1,
+                z: at.2,
+            },
+        );
+        (
+            (found.x.lo, found.x.hi),
+            (found.y.lo, found.y.hi),
+            (found.z.lo, found.z.hi),
+        )
+    }
+
+    // Ends by Python's fractions.
+    #[test]
+    fn images(rt: HostRuntime) {
+        let one = 1 << 30;
+        let quarter = ends_at(0, (0, 0, one), (0, 0, 0), (1000, 0, 0));
+        assert_eq!(rt; quarter, ((0, 0), (65_536_000, 65_536_000), (0, 0)));
+        let moved = ends_at(
+            3,
+            (0, 0, one / 2),
+            (65_536, -65_536, 5),
+            (1000, -2000, 3000),
+        );
+        assert_eq!(rt;
+            moved,
+            (
+                (-65_470_464, -65_470_464),
+                (235_864_063, 235_864_065),
+                (13_107_204, 13_107_206)
+            )
+        );
+        let tilted = ends_at(1, (-one / 2, one / 4, 0), (0, 0, 0), (7, 0, 0));
+        assert_eq!(rt;
+            tilted,
+            ((415_061, 415_062), (174_762, 174_763), (87_381, 87_382))
+        );
+        let third = ends_at(2, (one / 2, 0, 0), (1, 2, 3), (-5, 5, 1));
+        assert_eq!(rt;
+            third,
+            ((249_037, 249_038), (327_682, 327_682), (222_825, 222_826))
+        );
+    }
+}

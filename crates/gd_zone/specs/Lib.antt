@@ -1,0 +1,5 @@
+pub mod Boxes
+pub mod Conditions
+pub mod Refutations
+pub mod Tests
+pub mod Values
