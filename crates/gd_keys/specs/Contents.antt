@@ -32,10 +32,19 @@ text d = or_broken (as_str d) rule.Kind
 abbrev pub name : Data → Result (List ℕ) Rule
 name d = text d >>= (λ bytes. or_broken (name_of bytes) rule.Range)
 
+-- a text that is one of the words with a meaning
+abbrev pub word : {A : Type 0} → (List ℕ → Option A) → Data → Result A Rule
+word meaning d = text d >>= (λ bytes. or_broken (meaning bytes) rule.Range)
+
 -- each item as a test takes it, where it takes them all
 abbrev pub all_of : {A : Type 0} → (Data → Option A) → Items → Option (List A)
 all_of take no_items = Some []
 all_of take (item d more) = option_and_then (λ x. option_map (λ xs. x ∷ xs) (all_of take more)) (take d)
+
+-- the same of a list
+abbrev pub each_as : {A B : Type 0} → (A → Option B) → List A → Option (List B)
+each_as take [] = Some []
+each_as take (x ∷ more) = option_and_then (λ y. option_map (λ ys. y ∷ ys) (each_as take more)) (take x)
 
 -- a list whose elements are all of one kind
 abbrev pub list_of : {A : Type 0} → (Data → Option A) → Data → Result (List A) Rule

@@ -1,5 +1,5 @@
 -- The keys of a table: which may stand there, and what one of them holds.
-use Rattle.std.specs.Prelude.{ℕ, Bool, true, List, Option, Some, None, Result, Ok, Err, nat_eq, ◌&&◌, if◌then◌else◌}
+use Rattle.std.specs.Prelude.{ℕ, Bool, true, not, List, [], ◌∷◌, ◌++◌, Option, Some, None, Result, Ok, Err, nat_eq, ◌&&◌, if◌then◌else◌}
 use Rattle.std.specs.Cmp.Lexicographic.{pointwise}
 use Rattle.std.specs.List.{list_any}
 use Rattle.toml.specs.Data.{Data, Members, no_members, member, get_member}
@@ -10,6 +10,15 @@ use Rattle.gd_keys.specs.declared.rule.Rule.TheVariants as rule
 -- a name stands among these
 abbrev pub is_among : List (List ℕ) → List ℕ → Bool
 is_among names name = list_any (pointwise nat_eq name) names
+
+-- each name is none of those seen and none of the names before it
+abbrev pub are_new : List (List ℕ) → List (List ℕ) → Bool
+are_new seen [] = true
+are_new seen (name ∷ more) = not (is_among seen name) && are_new (seen ++ name ∷ []) more
+
+-- no name stands twice
+abbrev pub once : List (List ℕ) → Result (Unit {0}) Rule
+once names = if are_new [] names then Ok tt else Err rule.Once
 
 -- each key of the table is one of these
 abbrev pub are_listed : List (List ℕ) → Members → Bool

@@ -9,7 +9,7 @@ ghost use Rattle.gd_keys.specs.declared.rule.Rule.TheVariants as rule;
 ghost use Rattle.gd_vec.specs.Vector.{IsWithin};
 
 use crate::{KeyFault, Rule};
-use gd_base::Name;
+use gd_base::{Memory, Name};
 use gd_vec::V3;
 use std::alloc::Global;
 use toml::Value;
@@ -119,4 +119,15 @@ fn integers(alloc: Global, items: &[Value]) -> Result<Vec<i64>, KeyFault>
         }
     }
     Ok(numbers)
+}
+
+/// A name once more.
+pub fn again(alloc: Global, name: &Name) -> Result<Name, Memory>
+    ensures { IfOk result (λ other. other ≡ name.now) }
+{
+    match Name::of(alloc, name.bytes())? {
+        Some(other) => Ok(other),
+        // the bytes of a name are a name's
+        None => Err(Memory),
+    }
 }
