@@ -1,7 +1,4 @@
-pub mod Words
-pub mod Kinds
-pub mod Ranges
-pub mod Listed
-pub mod Grammar
-pub mod Seen
 pub mod Combinations
+pub mod Groups
+pub mod Needs
+pub mod Tallies

@@ -1,11 +1,7 @@
 //! The frame file: what a drawing demands of the features of a part.
 #![tactic(auto)]
 
-mod file;
-mod kind;
-mod listed;
-mod ranges;
-mod word;
+mod combination;
+mod groups;
 
-pub use file::{DatumDef, DatumRef, FeatureDef, FrameDef, FrameFile};
-pub use kind::{Kind, Material, Shape, Turn};
+pub use gd_tables::{DatumDef, DatumRef, FeatureDef, FrameDef, FrameFile, Kind, Material, Shape, Turn};
