@@ -1,11 +1,12 @@
 -- Counting the groups of a feature, point by point.
-use Rattle.std.proofs.Common.{◌≡◌, ◌≢◌, ◌⊎◌, inl, inr, ℕ, zero, suc, ◌+◌, ◌-◌, ◌*◌, ◌<◌, ◌≤◌, Bool, true, false, cond, nat_eq, ◌&&◌, ◌||◌, List, [], ◌∷◌, length, take, set, get_or, replicate, slice_get, Some, refl, sym, subst, ap, ◌∙◌, arith}
+use Rattle.std.proofs.Common.{◌≡◌, ◌≢◌, if◌then◌else◌, ◌⊎◌, inl, inr, ℕ, zero, suc, ◌+◌, ◌-◌, ◌*◌, ◌<◌, ◌≤◌, Bool, true, false, not, cond, nat_eq, ◌&&◌, ◌||◌, List, [], ◌∷◌, length, take, set, get_or, replicate, slice_get, Some, refl, sym, subst, ap, ◌∙◌, arith}
 use Rattle.std.proofs.lemmas.Bool.{and_parts, cases_Bool, eq-eqb, eqb-true, false≢true}
 use Rattle.std.proofs.lemmas.Bool.Decides.{eqb_tells}
-use Rattle.std.proofs.lemmas.List.{get_or-set_same, get_or-set_other}
+use Rattle.std.proofs.lemmas.List.{get_or-set_same, get_or-set_other, length-set}
 use Rattle.std.proofs.lemmas.List.Folds.{list_any_more}
 use Rattle.std.proofs.lemmas.Option.{get_or_from_slice_get, slice_get_within}
 use Rattle.std.specs.List.{filter, list_any}
+use Rattle.gd_frames.specs.Tallies.{bumped}
 use Rattle.gd_frames.specs.Groups.{AreCounts, groups_from, has_group, is_of, numbers_from}
 use Rattle.gd_points.specs.declared.table.Row.{Row}
 
@@ -59,13 +60,17 @@ count_none : (n a : ℕ) → length (filter (λ (k : ℕ). false) (numbers_from 
 count_none zero a = refl
 count_none (suc n) a = count_none n (suc a)
 
-zero_or : (n i : ℕ) → get_or (replicate n 0) i 0 ≡ 0
+abbrev zeros : ℕ → List ℕ
+zeros n = replicate n 0
+
+zero_or : (n i : ℕ) → get_or (zeros n) i 0 ≡ 0
 zero_or zero i = refl
 zero_or (suc n) zero = refl
 zero_or (suc n) (suc i) = zero_or n i
 
 -- before the first point
 pub counts_none : (first n : ℕ) → AreCounts first [] (replicate n 0)
+unfolding groups_from
 counts_none first n = λ feature. zero_or n feature ∙ sym (count_none (1000 - first) first)
 
 -- what a point adds
@@ -115,6 +120,7 @@ has_known rows i r at met feature group =
 
 pub known : (first : ℕ) (rows : List Row) (i : ℕ) (r : Row) (counts : List ℕ) → slice_get rows i ≡ Some r
     → has_group (take i rows) r.feature r.group ≡ true → AreCounts first (take i rows) counts → AreCounts first (take (i + 1) rows) counts
+unfolding groups_from
 known first rows i r counts at met are = λ feature.
     are feature ∙ sym (count_same (has_group (take i rows) feature) (has_group (take (i + 1) rows) feature)
     (has_known rows i r at met feature) (1000 - first) first)
@@ -122,6 +128,7 @@ known first rows i r counts at met are = λ feature.
 -- a group below those that are counted adds nothing
 pub below : (first : ℕ) (rows : List Row) (i : ℕ) (r : Row) (counts : List ℕ) → slice_get rows i ≡ Some r
     → r.group < first → AreCounts first (take i rows) counts → AreCounts first (take (i + 1) rows) counts
+unfolding groups_from
 below first rows i r counts at low are = λ feature.
     are feature ∙ sym (count_above (has_group (take i rows) feature) (has_group (take (i + 1) rows) feature) r.group
     (λ k o. has_more rows i r at feature k ∙ or_right _ _ (other_group r feature k o)) (1000 - first) first low)
@@ -130,6 +137,7 @@ counted_here : (first : ℕ) (rows : List Row) (i : ℕ) (r : Row) (counts : Lis
     → has_group (take i rows) r.feature r.group ≡ false → first ≤ r.group → r.group ≤ 999 → r.feature < length counts
     → AreCounts first (take i rows) counts
     → get_or (set counts r.feature (get_or counts r.feature 0 + 1)) r.feature 0 ≡ length (groups_from first (take (i + 1) rows) r.feature)
+unfolding groups_from
 counted_here first rows i r counts at new low high within are =
     let met : has_group (take (i + 1) rows) r.feature r.group ≡ true =
     has_more rows i r at r.feature r.group ∙ ap (λ b. has_group (take i rows) r.feature r.group || b) (is_of_itself r) ∙ or_true _ in
@@ -141,6 +149,7 @@ counted_here first rows i r counts at new low high within are =
 pub counted : (first : ℕ) (rows : List Row) (i : ℕ) (r : Row) (counts : List ℕ) → slice_get rows i ≡ Some r
     → has_group (take i rows) r.feature r.group ≡ false → first ≤ r.group → r.group ≤ 999 → r.feature < length counts
     → AreCounts first (take i rows) counts → AreCounts first (take (i + 1) rows) (set counts r.feature (get_or counts r.feature 0 + 1))
+unfolding groups_from
 counted first rows i r counts at new low high within are = λ feature.
     elim (eqb_tells feature r.feature) [
       | inl e ↦
@@ -153,6 +162,7 @@ counted first rows i r counts at new low high within are = λ feature.
     ]
 
 pub counts_small : (first : ℕ) (rows : List Row) (counts : List ℕ) → AreCounts first rows counts → (feature : ℕ) → get_or counts feature 0 ≤ 1000
+unfolding groups_from
 counts_small first rows counts are feature =
     omega (arith, are feature, count_small (has_group rows feature) (1000 - first) first)
 
@@ -180,3 +190,43 @@ met_more old new rows i r at small updates met feature group h =
           ] in
           updates (feature * 1000 + group) ∙ rw apart (met feature group h ∙ sym (more ∙ or_right _ _ other))
     ]
+
+-- the counts after a group that is new: those from 0 on, and those from 1 on
+pub counted_all : (rows : List Row) (i : ℕ) (r : Row) (old new : List ℕ) → slice_get rows i ≡ Some r
+    → has_group (take i rows) r.feature r.group ≡ false → r.group ≤ 999 → r.feature < length old
+    → new ≡ bumped old r.feature → AreCounts 0 (take i rows) old → AreCounts 0 (take (i + 1) rows) new
+counted_all rows i r old new at first_met small within is are =
+    let P : List ℕ → Type 0 = λ xs. AreCounts 0 (take (i + 1) rows) xs in
+    subst P (sym is) (counted 0 rows i r old at first_met (omega arith) small within are)
+
+pub counted_contacts : (rows : List Row) (i : ℕ) (r : Row) (old new : List ℕ) → slice_get rows i ≡ Some r
+    → has_group (take i rows) r.feature r.group ≡ false → r.group ≤ 999 → r.feature < length old
+    → new ≡ (if nat_eq r.group 0 then old else bumped old r.feature) → AreCounts 1 (take i rows) old → AreCounts 1 (take (i + 1) rows) new
+counted_contacts rows i r old new at first_met small within is are =
+    let P : List ℕ → Type 0 = λ xs. AreCounts 1 (take (i + 1) rows) xs in
+    elim (eqb_tells r.group 0) [
+      | inl none ↦
+          let stays : new ≡ old = is ∙ rw none.0 in
+          subst P (sym stays) (below 1 rows i r old at (omega (arith, none.1)) are)
+      | inr some ↦
+          let more : new ≡ bumped old r.feature = is ∙ rw some.0 in
+          subst P (sym more) (counted 1 rows i r old at first_met (omega (arith, some.1)) small within are)
+    ]
+
+pub length_bumped : (counts : List ℕ) (feature : ℕ) → length (bumped counts feature) ≡ length counts
+length_bumped counts feature = length-set counts feature _
+
+pub length_contacts : (group feature : ℕ) (counts : List ℕ) → length (if nat_eq group 0 then counts else bumped counts feature) ≡ length counts
+length_contacts group feature counts = elim (cases_Bool (nat_eq group 0)) [
+  | inl none ↦ rw none
+  | inr some ↦ rw some (length_bumped counts feature)
+]
+
+-- a group that was put in is new, or was met before
+pub new_group : (b has : Bool) (r : Bool) → r ≡ not b → b ≡ has → r ≡ true → has ≡ false
+new_group true has r is same new = absurd (false≢true (sym is ∙ new))
+new_group false has r is same new = sym same
+
+pub old_group : (b has : Bool) (r : Bool) → r ≡ not b → b ≡ has → r ≡ false → has ≡ true
+old_group true has r is same old = sym same
+old_group false has r is same old = absurd (false≢true (sym old ∙ is))

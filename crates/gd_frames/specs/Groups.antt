@@ -18,7 +18,7 @@ abbrev pub has_group : List Row → ℕ → ℕ → Bool
 has_group rows feature group = list_any (is_of feature group) rows
 
 -- the groups from one on that the points of a feature have, in ascending order: a group number is at most 999
-abbrev pub groups_from : ℕ → List Row → ℕ → List ℕ
+unfoldable pub groups_from : ℕ → List Row → ℕ → List ℕ
 groups_from first rows feature = filter (has_group rows feature) (numbers_from first (1000 - first))
 
 abbrev pub groups : List Row → ℕ → List ℕ

@@ -1,4 +1,5 @@
 pub mod Combinations
 pub mod Groups
 pub mod Needs
+pub mod Counts
 pub mod Tallies

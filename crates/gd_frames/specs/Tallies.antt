@@ -1,9 +1,13 @@
 -- For the proof of the counts of groups, and cited by private functions alone: a tally of some points.
-use Rattle.std.specs.Prelude.{ℕ, ◌≡◌, ◌≤◌, ◌+◌, ◌*◌, List, length, nat_eq}
+use Rattle.std.specs.Prelude.{ℕ, ◌≡◌, ◌≤◌, ◌+◌, ◌*◌, List, length, nat_eq, set, get_or}
 use Rattle.std.specs.List.{list_any}
 use Rattle.gd_frames.specs.Groups.{AreCounts, has_group}
 use Rattle.gd_frames.specs.declared.groups.Tally.{Tally}
 use Rattle.gd_points.specs.declared.table.Row.{Row}
+
+-- one more for a feature
+abbrev pub bumped : List ℕ → ℕ → List ℕ
+bumped counts feature = set counts feature (get_or counts feature 0 + 1)
 
 -- the groups that were met are those of the points, and so many they are, for so many features
 pub record IsTally (features : ℕ) (rows : List Row) (t : Tally) : Type 0 where

@@ -173,10 +173,12 @@ fn same_word(v: &DatumRef, w: &DatumRef) -> bool
 pub(crate) fn begin(first: &[DatumRef], words: &[DatumRef]) -> bool
     ensures { result ≡ begin first.now words.now }
 {
-    match (first, words) {
-        ([], _) => true,
-        ([v, more @ ..], [w, rest @ ..]) => same_word(v, w) && begin(more, rest),
-        _ => false,
+    match first {
+        [] => true,
+        [v, more @ ..] => match words {
+            [] => false,
+            [w, rest @ ..] => same_word(v, w) && begin(more, rest),
+        },
     }
 }
 

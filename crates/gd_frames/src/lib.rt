@@ -2,6 +2,10 @@
 #![tactic(auto)]
 
 mod combination;
+mod counts;
 mod groups;
+mod needs;
 
-pub use gd_tables::{DatumDef, DatumRef, FeatureDef, FrameDef, FrameFile, Kind, Material, Shape, Turn};
+pub use gd_tables::{
+    DatumDef, DatumRef, FeatureDef, FrameDef, FrameFile, Kind, Material, Shape, Turn,
+};
