@@ -4,8 +4,7 @@ ghost use Rattle.std.specs.List.{list_all};
 ghost use Rattle.gd_frames.specs.Combinations.{begin, feature_of, fits_count, fits_features, fits_lower, fits_words, has_axis, is_allowed, may_be_axis, may_be_datum, may_have_above, may_have_lower, passes, same_word, takes};
 ghost use Rattle.gd_tables.specs.Kinds.{frame_of};
 
-use gd_tables::{DatumDef, DatumRef, FeatureDef, FrameDef};
-use gd_tables::{Kind, Material, Shape};
+use gd_tables::{DatumDef, DatumRef, FeatureDef, FrameDef, Kind, Material, Shape};
 
 /// Whether a frame states nothing that may not be stated together.
 pub(crate) fn is_allowed(features: &[FeatureDef], datums: &[DatumDef], frame: &FrameDef) -> bool
@@ -120,12 +119,7 @@ fn fits_words(features: &[FeatureDef], datums: &[DatumDef], words: &[DatumRef]) 
     true
 }
 
-fn fits_count(
-    features: &[FeatureDef],
-    datums: &[DatumDef],
-    kind: Kind,
-    words: &[DatumRef],
-) -> bool
+fn fits_count(features: &[FeatureDef], datums: &[DatumDef], kind: Kind, words: &[DatumRef]) -> bool
     ensures { result ≡ fits_count features.now datums.now kind words.now }
 {
     match kind {

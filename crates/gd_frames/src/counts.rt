@@ -14,6 +14,7 @@ use gd_tables::{DatumDef, DatumRef, FeatureDef, FrameDef, Kind, Shape};
 
 /// The most conditions of a group, and one more.
 const CONDITIONS: u32 = 4_096;
+
 const TOO_MANY: u32 = 4_097;
 
 /// The most local offsets of a group.
@@ -52,13 +53,7 @@ fn by_shape(shape: Shape, at_mmb: bool, contacts: u32) -> u32
 {
     match shape {
         Shape::Plane => plus(1, contacts),
-        Shape::Hole | Shape::Pin => {
-            if at_mmb {
-                1
-            } else {
-                contacts
-            }
-        }
+        Shape::Hole | Shape::Pin => { if at_mmb { 1 } else { contacts } }
         Shape::Axis | Shape::Sphere => 0,
     }
 }
@@ -101,12 +96,7 @@ fn feature_conditions(counts: &GroupCounts<'_>, kind: Kind, def: &FeatureDef) ->
     }
 }
 
-fn conditions_at(
-    features: &[FeatureDef],
-    counts: &GroupCounts<'_>,
-    kind: Kind,
-    place: u32,
-) -> u32
+fn conditions_at(features: &[FeatureDef], counts: &GroupCounts<'_>, kind: Kind, place: u32) -> u32
     ensures { result ≡ count_at (feature_conditions counts.now.points.now.rows kind) (slice_get features.now place) }
 {
     match features.get(place as usize) {
@@ -199,7 +189,10 @@ fn group_conditions(
 {
     let words = words_conditions(features, datums, counts, frame.datums.as_slice());
     let others = joined_conditions(features, counts, earlier, frame);
-    plus(words, plus(others, frame_conditions(features, counts, frame)))
+    plus(
+        words,
+        plus(others, frame_conditions(features, counts, frame)),
+    )
 }
 
 fn lower_conditions(

@@ -27,10 +27,7 @@ struct Tally {
 }
 
 /// The counts of a table.
-pub(crate) fn count_groups(
-    alloc: Global,
-    points: &PointTable,
-) -> Result<GroupCounts<'_>, Memory>
+pub(crate) fn count_groups(alloc: Global, points: &PointTable) -> Result<GroupCounts<'_>, Memory>
     ensures { IfOk result (λ counts. counts.points.now ≡ points.now) }
 {
     let mut tally = no_groups(alloc, points.features())?;

@@ -5,7 +5,11 @@ mod combination;
 mod counts;
 mod groups;
 mod needs;
+mod read;
+#[cfg(test)]
+mod tests;
 
 pub use gd_tables::{
     DatumDef, DatumRef, FeatureDef, FrameDef, FrameFile, Kind, Material, Shape, Turn,
 };
+pub use read::read_frames;

@@ -114,13 +114,7 @@ fn least_contacts(place: usize, shape: Shape, at_mmb: bool) -> usize
 {
     match shape {
         Shape::Plane => 3usize.saturating_sub(place),
-        Shape::Hole | Shape::Pin => {
-            if at_mmb {
-                0
-            } else {
-                3
-            }
-        }
+        Shape::Hole | Shape::Pin => { if at_mmb { 0 } else { 3 } }
         Shape::Axis | Shape::Sphere => 0,
     }
 }
@@ -136,7 +130,8 @@ fn has_contacts(
 {
     match feature_of(features, datums, word) {
         Some(def) => {
-            least_contacts(place, def.shape, word.at_mmb) <= counts.contacts_of(def.feature) as usize
+            least_contacts(place, def.shape, word.at_mmb)
+                <= counts.contacts_of(def.feature) as usize
         }
         None => false,
     }

@@ -26,16 +26,14 @@ use toml::Table;
 
 // The columns of faults.
 const FEATURES: u32 = 1;
+
 const DATUMS: u32 = 2;
+
 const FRAMES: u32 = 3;
 
 /// The frame file (docs/FORMATS.md, "The frame file") that stands for the bytes beside a table of points, or its first
 /// fault. `Memory` is free.
-pub fn read_frames(
-    alloc: Global,
-    bytes: &[u8],
-    table: &PointTable,
-) -> Result<FrameFile, ReadFault>
+pub fn read_frames(alloc: Global, bytes: &[u8], table: &PointTable) -> Result<FrameFile, ReadFault>
     ensures { Answers file_of result (frames bytes.now table.now) }
 {
     match read_document(alloc, bytes) {
@@ -63,15 +61,17 @@ fn read_file(alloc: Global, points: &PointTable, table: &Table) -> Result<FrameF
     let datums = read_datums(alloc, &features, &top.ranges, top.datums.as_slice())?;
     let counts = count_groups(alloc, points)?;
     let frames = read_all_frames(alloc, &features, &datums, &counts, top.frames.as_slice())?;
-    test_limits(features.items.as_slice(), datums.items.as_slice(), &counts, frames.items.as_slice())?;
-    Ok(FrameFile {
-        turn: top.turn,
-        shift: top.shift,
-        centre: top.centre,
-        features: features.items,
-        datums: datums.items,
-        frames: frames.items,
-    })
+    match test_limits(&features, &datums, &counts, frames.items.as_slice()) {
+        Ok(()) => Ok(FrameFile {
+            turn: top.turn,
+            shift: top.shift,
+            centre: top.centre,
+            features: features.items,
+            datums: datums.items,
+            frames: frames.items,
+        }),
+        Err(fault) => Err(fault),
+    }
 }
 
 fn read_top_level<'a>(alloc: Global, table: &'a Table) -> Result<Top<'a>, ReadFault>
@@ -186,7 +186,12 @@ fn read_right_frame(
     ensures new { IfOk result (λ f. is_among earlier.now.names.keys f.name ≡ false) }
 {
     let frame = read_frame(alloc, features, datums, earlier, table)?;
-    judge(features.items.as_slice(), datums.items.as_slice(), counts, &frame)?;
+    judge(
+        features.items.as_slice(),
+        datums.items.as_slice(),
+        counts,
+        &frame,
+    )?;
     Ok(frame)
 }
 
@@ -257,16 +262,22 @@ fn test_frame(
 }
 
 fn test_limits(
-    features: &[FeatureDef],
-    datums: &[DatumDef],
+    features: &Listed<FeatureDef>,
+    datums: &Listed<DatumDef>,
     counts: &GroupCounts<'_>,
     frames: &[FrameDef],
 ) -> Result<(), ReadFault>
     requires { length frames.now ≤ 256 }
-    ensures { Answers (λ u. u) result (limits_from features.now datums.now counts.now.points.now.rows [] (map frame_of frames.now)) }
+    ensures { Answers (λ u. u) result (limits_from features.now.items.items datums.now.items.items counts.now.points.now.rows [] (map frame_of frames.now)) }
 {
     for (at, frame) in frames.iter().enumerate() {
-        match test_frame(features, datums, counts, &frames[..at], frame) {
+        match test_frame(
+            features.items.as_slice(),
+            datums.items.as_slice(),
+            counts,
+            &frames[..at],
+            frame,
+        ) {
             Ok(()) => {}
             Err(fault) => return Err(fault),
         }

@@ -183,6 +183,14 @@ frame_in features datums earlier table = do
   lower_words ← default_to [] (codes "lower_datums") (words_in datums) table
   separate ← default_to false (codes "separate") truth table
   Ok (record {
-    name = name; kind = kind; features = places; tolerance = tolerance; datums = words; material = material;
-    above = above; lower = lower; lower_datums = lower_words; separate = separate
+    name = name;
+    kind = kind;
+    features = places;
+    tolerance = tolerance;
+    datums = words;
+    material = material;
+    above = above;
+    lower = lower;
+    lower_datums = lower_words;
+    separate = separate;
   })

@@ -43,12 +43,24 @@ pub record File : Type 0 where
 -- the values as they are kept in memory
 abbrev pub frame_of : FrameDef → Frame
 frame_of f = record {
-  name = f.name; kind = f.kind; features = f.features.items; tolerance = f.tolerance; datums = f.datums.items;
-  material = f.material; above = f.above; lower = f.lower; lower_datums = f.lower_datums.items; separate = f.separate
+  name = f.name;
+  kind = f.kind;
+  features = f.features.items;
+  tolerance = f.tolerance;
+  datums = f.datums.items;
+  material = f.material;
+  above = f.above;
+  lower = f.lower;
+  lower_datums = f.lower_datums.items;
+  separate = f.separate;
 }
 
 abbrev pub file_of : FrameFile → File
 file_of f = record {
-  turn = f.turn; shift = f.shift; centre = f.centre; features = f.features.items; datums = f.datums.items;
-  frames = map frame_of f.frames.items
+  turn = f.turn;
+  shift = f.shift;
+  centre = f.centre;
+  features = f.features.items;
+  datums = f.datums.items;
+  frames = map frame_of f.frames.items;
 }

@@ -18,6 +18,11 @@ seen_tables v = map (λ t. table_view t.now) v.items
 
 abbrev pub seen_top : TopRead → Top
 seen_top t = record {
-  ranges = t.ranges; turn = t.turn; shift = t.shift; centre = t.centre;
-  features = seen_tables t.features; datums = seen_tables t.datums; frames = seen_tables t.frames
+  ranges = t.ranges;
+  turn = t.turn;
+  shift = t.shift;
+  centre = t.centre;
+  features = seen_tables t.features;
+  datums = seen_tables t.datums;
+  frames = seen_tables t.frames;
 }

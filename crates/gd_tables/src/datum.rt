@@ -15,6 +15,7 @@ use toml::Table;
 
 /// The greatest slack, and the slack of a datum that states none, in units.
 const SLACK: u32 = 10_000;
+
 const USUAL_SLACK: u32 = 10;
 
 /// A datum table, whose name none of the earlier ones has.
@@ -45,11 +46,7 @@ pub fn read_datum(
 }
 
 // The place of the feature that a datum names.
-fn read_place(
-    alloc: Global,
-    features: &Listed<FeatureDef>,
-    table: &Table,
-) -> Result<u32, KeyFault>
+fn read_place(alloc: Global, features: &Listed<FeatureDef>, table: &Table) -> Result<u32, KeyFault>
     requires { length features.now.names.keys ≤ 1024 }
     ensures place { Gives (λ p. p) result (needed (codes "feature") (known_feature features.now.names.keys) (table_view table.now)) }
     ensures within { IfOk result (λ p. p < length features.now.names.keys) }

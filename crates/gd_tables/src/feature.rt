@@ -41,7 +41,15 @@ pub fn read_feature(
 {
     only_keys(
         table,
-        &["name", "shape", "direction", "point", "radius", "mmc", "lmc"],
+        &[
+            "name",
+            "shape",
+            "direction",
+            "point",
+            "radius",
+            "mmc",
+            "lmc",
+        ],
     )?;
     let name = new_name(alloc, earlier, table)?;
     let feature = number_of(points, &name)?;

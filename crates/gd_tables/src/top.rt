@@ -20,7 +20,9 @@ use toml::{Table, Value};
 
 /// The most tables of features, of datums and of frames.
 const FEATURES: usize = 1_024;
+
 const DATUMS: usize = 64;
+
 const FRAMES: usize = 256;
 
 /// What the top level states, and the tables of its lists.
@@ -126,11 +128,7 @@ fn read_tables<'a>(
     }
 }
 
-fn tables_to<'a>(
-    alloc: Global,
-    value: &'a Value,
-    most: usize,
-) -> Result<Vec<&'a Table>, KeyFault>
+fn tables_to<'a>(alloc: Global, value: &'a Value, most: usize) -> Result<Vec<&'a Table>, KeyFault>
     ensures tables { Gives (λ v. seen_tables v) result (tables_to most (view value.now)) }
     ensures most { IfOk result (λ v. length v.items ≤ most) }
 {
