@@ -1,7 +1,7 @@
 -- The definitions by values worked by hand.
-use Rattle.std.specs.Prelude.{◌≡◌, [], ◌∷◌, pos, negsuc, true, false, Some, None, Ok, Err, codes, refl}
+use Rattle.std.specs.Prelude.{◌≡◌, [], ◌∷◌, pos, negsuc, true, false, None, Ok, Err, codes, refl}
 use Rattle.toml.specs.Data.{array, boolean, integer, item, member, no_items, no_members, string}
-use Rattle.gd_keys.specs.Contents.{name, number, texts, three}
+use Rattle.gd_keys.specs.Contents.{name, number, three}
 use Rattle.gd_keys.specs.Keys.{are_listed, default_to, needed, once, optional}
 use Rattle.gd_keys.specs.declared.rule.Rule.TheVariants as rule
 

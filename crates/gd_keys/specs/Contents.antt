@@ -1,5 +1,5 @@
 -- What a value of a TOML document is read as. The kind of the value and of each element comes before every range.
-use Rattle.std.specs.Prelude.{ℕ, ℤ, pos, negsuc, Bool, List, [], ◌∷◌, map, Option, Some, None, option_map, Result, Ok, Err, unsigned_abs, nat_le, ◌&&◌, not, ◌==◌, if◌then◌else◌}
+use Rattle.std.specs.Prelude.{ℕ, ℤ, pos, negsuc, Bool, List, [], ◌∷◌, Option, Some, option_map, Result, Ok, Err, unsigned_abs, nat_le, ◌&&◌, if◌then◌else◌}
 use Rattle.std.specs.Option.{option_and_then}
 use Rattle.toml.specs.Data.{Data, Items, no_items, item, Members, as_integer, as_str, as_bool, as_array, as_table}
 use Rattle.gd_base.specs.Names.{name_of}

@@ -1,5 +1,5 @@
 -- The document that bytes are.
-use Rattle.std.specs.Prelude.{ℕ, List, Option, None, Result, if◌then◌else◌}
+use Rattle.std.specs.Prelude.{ℕ, List, None, Result, if◌then◌else◌}
 use Rattle.std.specs.Str.{is_utf8}
 use Rattle.toml.specs.Data.{Members}
 use Rattle.toml.specs.Parse.{parse_document}

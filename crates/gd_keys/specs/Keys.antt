@@ -3,7 +3,7 @@ use Rattle.std.specs.Prelude.{ℕ, Bool, true, not, List, [], ◌∷◌, ◌++�
 use Rattle.std.specs.Cmp.Lexicographic.{pointwise}
 use Rattle.std.specs.List.{list_any}
 use Rattle.toml.specs.Data.{Data, Members, no_members, member, get_member}
-use Rattle.gd_keys.specs.Rules.{◌>>=◌, or_broken}
+use Rattle.gd_keys.specs.Rules.{◌>>=◌}
 use Rattle.gd_keys.specs.declared.rule.Rule.{Rule}
 use Rattle.gd_keys.specs.declared.rule.Rule.TheVariants as rule
 

@@ -1,10 +1,10 @@
 -- The definitions by values worked by hand.
-use Rattle.std.specs.Prelude.{◌≡◌, List, [], ◌∷◌, ℕ, pos, true, false, Some, None, Ok, Err, codes, refl}
-use Rattle.toml.specs.Data.{Items, array, integer, item, member, no_items, no_members, string}
+use Rattle.std.specs.Prelude.{◌≡◌, [], ◌∷◌, pos, true, false, Some, None, Ok, Err, codes, refl}
+use Rattle.toml.specs.Data.{array, integer, item, member, no_items, no_members, string}
 use Rattle.gd_keys.specs.declared.rule.Rule.TheVariants as rule
-use Rattle.gd_tables.specs.Grammar.{Word, datum_in, features_in, turn_in, version, word_of, words_in}
+use Rattle.gd_tables.specs.Grammar.{datum_in, features_in, turn_in, version, word_of, words_in}
 use Rattle.gd_tables.specs.Ranges.{version_1}
-use Rattle.gd_tables.specs.Words.{kind_of, shape_of}
+use Rattle.gd_tables.specs.Words.{kind_of}
 use Rattle.gd_tables.specs.declared.kind.Kind.TheVariants as kind
 use Rattle.gd_tables.specs.declared.kind.Turn.TheVariants as turn
 

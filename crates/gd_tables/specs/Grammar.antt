@@ -1,12 +1,12 @@
 -- A frame file as its whole table states it: each table has its keys in their order, and the first rule that is broken
 -- in this order is told. Lengths are in units of 0.1 micrometre.
-use Rattle.std.specs.Prelude.{ℕ, ◌+◌, ℤ, pos, Bool, true, false, List, [], ◌∷◌, ◌++◌, map, length, Option, Some, None, option_map, Result, Ok, Err, codes, nat_eq, nat_le, drop, take, ◌-◌, ◌==◌, ◌&&◌, ◌||◌, not, cond, if◌then◌else◌}
+use Rattle.std.specs.Prelude.{ℕ, pos, Bool, true, false, List, [], ◌∷◌, map, length, Option, None, option_map, Result, Ok, Err, codes, nat_eq, nat_le, drop, take, ◌-◌, ◌==◌, ◌&&◌, if◌then◌else◌}
 use Rattle.std.specs.Cmp.Lexicographic.{pointwise}
 use Rattle.std.specs.Ordering.{int_eq}
 use Rattle.toml.specs.Data.{Data, string, Members, as_integer, get_member}
 use Rattle.gd_base.specs.Names.{name_of}
 use Rattle.gd_tables.specs.Kinds.{Frame, is_form}
-use Rattle.gd_tables.specs.Listed.{Entries, place_of}
+use Rattle.gd_tables.specs.Listed.{place_of}
 use Rattle.gd_tables.specs.Ranges.{ranges_of}
 use Rattle.gd_tables.specs.Words.{kind_of, material_of, shape_of}
 use Rattle.gd_tables.specs.declared.file.DatumDef.{DatumDef}

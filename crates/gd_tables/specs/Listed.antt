@@ -1,7 +1,6 @@
 -- The tables of one list that were read: their names, and what they state.
 use Rattle.std.specs.Prelude.{ℕ, List, [], ◌∷◌, ◌++◌, Option, nat_eq, position}
 use Rattle.std.specs.Cmp.Lexicographic.{pointwise}
-use Rattle.gd_tables.specs.declared.listed.Listed.{Listed}
 
 pub record Entries (A : Type 0) : Type 0 where
   pub names : List (List ℕ)

@@ -1,5 +1,5 @@
 -- What the words of a frame file mean.
-use Rattle.std.specs.Prelude.{ℕ, Bool, List, [], ◌∷◌, Option, Some, None, codes, nat_eq, cond, if◌then◌else◌}
+use Rattle.std.specs.Prelude.{ℕ, List, [], ◌∷◌, Option, Some, None, codes, nat_eq, if◌then◌else◌}
 use Rattle.std.specs.Cmp.Lexicographic.{pointwise}
 use Rattle.gd_tables.specs.declared.kind.Kind.{Kind}
 use Rattle.gd_tables.specs.declared.kind.Kind.TheVariants as kind

@@ -1,6 +1,6 @@
 use Rattle.std.proofs.Common.{◌≡◌, map, drop}
 use Rattle.toml.specs.Data.{as_str}
-use Rattle.toml.specs.View.{items_view, table_view}
+use Rattle.toml.specs.View.{items_view}
 use Rattle.gd_keys.specs.Contents.{all_of}
 use Rattle.gd_keys.proofs.Lists.{before}
 use Rattle.gd_keys.proofs.list.texts_of.Given as goal

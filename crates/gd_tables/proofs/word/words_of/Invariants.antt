@@ -1,11 +1,8 @@
-use Rattle.std.proofs.Common.{◌≡◌, map, drop, List, ℕ}
-use Rattle.gd_base.specs.Names.{name_of}
-use Rattle.gd_tables.specs.Grammar.{datum_of, word_of}
-use Rattle.gd_tables.specs.Listed.{place_of}
+use Rattle.std.proofs.Common.{◌≡◌, map, drop}
+use Rattle.gd_tables.specs.Grammar.{word_of}
 use Rattle.gd_tables.specs.Seen.{seen}
 use Rattle.gd_keys.proofs.Lists.{before}
 use Rattle.gd_keys.specs.Contents.{each_as}
-use Rattle.gd_keys.specs.Keys.{are_new}
 use Rattle.gd_tables.proofs.word.words_of.Given as goal
 
 abbrev pub invariant-loop-text : goal.invariant-loop-text
