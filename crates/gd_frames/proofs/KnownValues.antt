@@ -1,9 +1,8 @@
 -- The definitions by values worked by hand.
-use Rattle.std.specs.Prelude.{◌≡◌, List, [], ◌∷◌, ℕ, pos, true, false, Some, None, refl}
+use Rattle.std.specs.Prelude.{◌≡◌, [], ◌∷◌, true, false, refl}
 use Rattle.gd_frames.specs.Combinations.{begin, may_be_datum, takes}
 use Rattle.gd_frames.specs.Counts.{by_shape, feature_offsets}
 use Rattle.gd_frames.specs.Needs.{least_contacts}
-use Rattle.gd_tables.specs.declared.file.DatumRef.{DatumRef}
 use Rattle.gd_tables.specs.declared.kind.Kind.TheVariants as kind
 use Rattle.gd_tables.specs.declared.kind.Material.TheVariants as material
 use Rattle.gd_tables.specs.declared.kind.Shape.TheVariants as shape

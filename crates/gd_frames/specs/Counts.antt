@@ -1,5 +1,5 @@
 -- How many conditions and local offsets the group of a frame has. The tables that make the conditions have as many.
-use Rattle.std.specs.Prelude.{ℕ, ◌+◌, Bool, true, false, not, List, [], ◌∷◌, ◌++◌, length, Option, Some, None, is_some, slice_get, nat_eq, nat_lt, ◌&&◌, ◌||◌, Result, Ok, Err, if◌then◌else◌}
+use Rattle.std.specs.Prelude.{ℕ, ◌+◌, Bool, true, false, not, List, length, Option, Some, None, is_some, slice_get, nat_eq, nat_lt, ◌&&◌, ◌||◌, Result, Ok, Err, if◌then◌else◌}
 use Rattle.std.specs.List.{sum_by}
 use Rattle.gd_frames.specs.Combinations.{begin, feature_of}
 use Rattle.gd_frames.specs.Groups.{contact_groups, groups}

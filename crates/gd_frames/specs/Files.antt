@@ -12,7 +12,7 @@ use Rattle.gd_keys.specs.Rules.{fault}
 use Rattle.gd_keys.specs.declared.rule.Rule.{Rule}
 use Rattle.gd_points.specs.Table.{Table}
 use Rattle.gd_points.specs.declared.table.Row.{Row}
-use Rattle.gd_tables.specs.Grammar.{Top, datum_in, feature_in, frame_in, top_in}
+use Rattle.gd_tables.specs.Grammar.{datum_in, feature_in, frame_in, top_in}
 use Rattle.gd_tables.specs.Kinds.{File, Frame}
 use Rattle.gd_tables.specs.Listed.{Entries, no_entries, with_entry}
 use Rattle.gd_tables.specs.declared.file.DatumDef.{DatumDef}

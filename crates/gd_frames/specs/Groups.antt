@@ -1,6 +1,6 @@
 -- The groups that the points of a feature have. The contact groups of a datum are those but 0; a circular runout is
 -- judged in each, 0 too.
-use Rattle.std.specs.Prelude.{ℕ, zero, suc, ◌+◌, ◌-◌, ◌≡◌, Bool, List, [], ◌∷◌, length, get_or, nat_eq, ◌&&◌}
+use Rattle.std.specs.Prelude.{ℕ, zero, suc, ◌-◌, ◌≡◌, Bool, List, [], ◌∷◌, length, get_or, nat_eq, ◌&&◌}
 use Rattle.std.specs.List.{filter, list_any}
 use Rattle.gd_points.specs.declared.table.Row.{Row}
 

@@ -1,5 +1,5 @@
 -- What a frame needs of its features and datums: code 23 where they lack a number, 29 where a datum has too few groups.
-use Rattle.std.specs.Prelude.{ℕ, ◌+◌, ◌-◌, Bool, true, false, not, List, [], ◌∷◌, length, Option, is_some, slice_get, nat_le, ◌&&◌, ◌||◌, Result, Ok, Err, if◌then◌else◌}
+use Rattle.std.specs.Prelude.{ℕ, ◌+◌, ◌-◌, Bool, true, false, not, List, [], ◌∷◌, length, is_some, slice_get, nat_le, ◌&&◌, ◌||◌, Result, Ok, Err, if◌then◌else◌}
 use Rattle.std.specs.List.{list_all}
 use Rattle.gd_frames.specs.Combinations.{feature_of, is_allowed, passes}
 use Rattle.gd_frames.specs.Groups.{contact_groups}

@@ -68,7 +68,10 @@ fn top_levels(rt: HostRuntime) -> Result<(), Fail> {
         ("version = 1\nfeature = 1\nframe = 2", (24, 0, 0)),
         ("version = 1\nframe = [{}]", (23, 1, 3)),
         ("version = 1\nframe = [{}]\ndatum = [{}]", (23, 1, 2)),
-        ("version = 1\nframe = [{}]\ndatum = [{}]\nfeature = [{}]", (23, 1, 1)),
+        (
+            "version = 1\nframe = [{}]\ndatum = [{}]\nfeature = [{}]",
+            (23, 1, 1),
+        ),
     ];
     for (text, want) in cases {
         assert_eq!(rt; told(rt.alloc(), "", text)?, want, "{text}");
@@ -82,23 +85,54 @@ fn features_and_datums(rt: HostRuntime) -> Result<(), Fail> {
         ("feature = [{hue = 1}]", (22, 1, 1)),
         ("feature = [{name = 1}]", (24, 1, 1)),
         ("feature = [{name = ''}]", (25, 1, 1)),
-        ("feature = [{name = 'abcdefghijklmnopqrstuvwxyz0123456'}]", (25, 1, 1)),
+        (
+            "feature = [{name = 'abcdefghijklmnopqrstuvwxyz0123456'}]",
+            (25, 1, 1),
+        ),
         ("feature = [{name = 'z'}]", (26, 1, 1)),
         ("feature = [{name = 'p'}]", (23, 1, 1)),
         ("feature = [{name = 'p', shape = 'cube'}]", (25, 1, 1)),
         ("feature = [{name = 'p', shape = 'plane'}]", (23, 1, 1)),
-        ("feature = [{name = 'p', shape = 'plane', direction = [0, 0, 1001]}]", (25, 1, 1)),
-        ("feature = [{name = 's', shape = 'sphere', direction = [0, 0, 0]}]", (30, 1, 1)),
+        (
+            "feature = [{name = 'p', shape = 'plane', direction = [0, 0, 1001]}]",
+            (25, 1, 1),
+        ),
+        (
+            "feature = [{name = 's', shape = 'sphere', direction = [0, 0, 0]}]",
+            (30, 1, 1),
+        ),
         ("feature = [{name = 's', shape = 'sphere'}]", (23, 1, 1)),
-        ("feature = [{name = 's', shape = 'sphere', point = [0, 0, 0], radius = -1}]", (25, 1, 1)),
-        ("feature = [{name = 's', shape = 'sphere', point = [0, 0, 0], radius = 8000001}]", (25, 1, 1)),
-        ("feature = [{name = 's', shape = 'sphere', point = [0, 0, 0]}, {name = 's'}]", (28, 2, 1)),
-        ("feature = [{name = 's', shape = 'sphere', point = [0, 0, 0]}]\ndatum = [{name = 'D', feature = 'p'}]", (26, 1, 2)),
-        ("feature = [{name = 's', shape = 'sphere', point = [0, 0, 0]}]\ndatum = [{name = 'D', feature = 's', slack = 10001}]", (25, 1, 2)),
-        ("feature = [{name = 's', shape = 'sphere', point = [0, 0, 0]}]\ndatum = [{name = 'D', feature = 's'}, {name = 'D'}]", (28, 2, 2)),
+        (
+            "feature = [{name = 's', shape = 'sphere', point = [0, 0, 0], radius = -1}]",
+            (25, 1, 1),
+        ),
+        (
+            "feature = [{name = 's', shape = 'sphere', point = [0, 0, 0], radius = 8000001}]",
+            (25, 1, 1),
+        ),
+        (
+            "feature = [{name = 's', shape = 'sphere', point = [0, 0, 0]}, {name = 's'}]",
+            (28, 2, 1),
+        ),
+        (
+            "feature = [{name = 's', shape = 'sphere', point = [0, 0, 0]}]\ndatum = [{name = 'D', feature = 'p'}]",
+            (26, 1, 2),
+        ),
+        (
+            "feature = [{name = 's', shape = 'sphere', point = [0, 0, 0]}]\ndatum = [{name = 'D', feature = 's', slack = 10001}]",
+            (25, 1, 2),
+        ),
+        (
+            "feature = [{name = 's', shape = 'sphere', point = [0, 0, 0]}]\ndatum = [{name = 'D', feature = 's'}, {name = 'D'}]",
+            (28, 2, 2),
+        ),
     ];
     for (text, want) in cases {
-        assert_eq!(rt; told(rt.alloc(), "version = 1\nframe = [{}]\n", text)?, want, "{text}");
+        assert_eq!(rt;
+            told(rt.alloc(), "version = 1\nframe = [{}]\n", text)?,
+            want,
+            "{text}"
+        );
     }
     Ok(())
 }
@@ -106,48 +140,171 @@ fn features_and_datums(rt: HostRuntime) -> Result<(), Fail> {
 #[test]
 fn frames(rt: HostRuntime) -> Result<(), Fail> {
     let cases = [
-        ("kind = 'flatness', features = ['p'], tolerance = 10", (0, 0, 0)),
-        ("kind = 'flatness', features = ['p'], tolerance = 10, hue = 1", (22, 1, 3)),
+        (
+            "kind = 'flatness', features = ['p'], tolerance = 10",
+            (0, 0, 0),
+        ),
+        (
+            "kind = 'flatness', features = ['p'], tolerance = 10, hue = 1",
+            (22, 1, 3),
+        ),
         ("features = ['p'], tolerance = 10", (23, 1, 3)),
-        ("kind = 'flat', features = ['p'], tolerance = 10", (25, 1, 3)),
-        ("kind = 'flatness', features = [], tolerance = 10", (25, 1, 3)),
-        ("kind = 'flatness', features = ['p', 'q'], tolerance = 10", (25, 1, 3)),
-        ("kind = 'position', features = ['X', 'X'], tolerance = 10", (28, 1, 3)),
-        ("kind = 'position', features = ['X', '!'], tolerance = 10", (25, 1, 3)),
-        ("kind = 'position', features = ['!', 1], tolerance = 10", (24, 1, 3)),
-        ("kind = 'position', features = ['X'], tolerance = 10", (26, 1, 3)),
-        ("kind = 'position', features = ['a'], tolerance = 16000001", (25, 1, 3)),
-        ("kind = 'position', features = ['a'], tolerance = 10, datums = ['X']", (27, 1, 3)),
-        ("kind = 'position', features = ['a'], tolerance = 10, datums = ['P', 'P(M)']", (28, 1, 3)),
-        ("kind = 'position', features = ['a'], tolerance = 10, datums = ['P (M)']", (25, 1, 3)),
-        ("kind = 'position', features = ['a'], tolerance = 10, datums = ['P', 'Q', 'H', 'M']", (25, 1, 3)),
-        ("kind = 'position', features = ['a'], tolerance = 10, datums = ['P', 'Q', 'H']", (0, 0, 0)),
-        ("kind = 'position', features = ['a'], tolerance = 10, datums = ['Q', 'P', 'H']", (29, 1, 3)),
-        ("kind = 'position', features = ['a'], tolerance = 10, datums = ['H(M)', 'Q']", (0, 0, 0)),
-        ("kind = 'position', features = ['a'], tolerance = 10, datums = ['M(M)']", (23, 1, 3)),
-        ("kind = 'position', features = ['a'], tolerance = 10, datums = ['P(M)']", (31, 1, 3)),
-        ("kind = 'position', features = ['a'], tolerance = 10, datums = ['A']", (31, 1, 3)),
-        ("kind = 'position', features = ['h'], tolerance = 10", (31, 1, 3)),
-        ("kind = 'position', features = ['h'], tolerance = 10, material = 'mmc'", (23, 1, 3)),
-        ("kind = 'position', features = ['m'], tolerance = 10, material = 'mmc'", (0, 0, 0)),
-        ("kind = 'position', features = ['m'], tolerance = 10, material = 'lmc'", (23, 1, 3)),
-        ("kind = 'profile', features = ['a'], tolerance = 10", (31, 1, 3)),
-        ("kind = 'profile', features = ['s'], tolerance = 10", (23, 1, 3)),
-        ("kind = 'profile', features = ['p', 'm'], tolerance = 10, above = 10", (0, 0, 0)),
-        ("kind = 'position', features = ['a'], tolerance = 10, above = 11", (25, 1, 3)),
-        ("kind = 'position', features = ['a'], tolerance = 10, above = 10", (31, 1, 3)),
-        ("kind = 'profile', features = ['p'], tolerance = 10, lower = 1", (31, 1, 3)),
-        ("kind = 'profile', features = ['p'], tolerance = 10, lower_datums = []", (0, 0, 0)),
-        ("kind = 'position', features = ['a'], tolerance = 10, datums = ['H(M)'], lower_datums = ['H(M)']", (31, 1, 3)),
-        ("kind = 'position', features = ['a'], tolerance = 10, datums = ['H(M)'], lower = 1, lower_datums = ['H']", (31, 1, 3)),
-        ("kind = 'position', features = ['a'], tolerance = 10, datums = ['H(M)'], lower = 1, lower_datums = ['H(M)']", (0, 0, 0)),
-        ("kind = 'angularity', features = ['p'], tolerance = 10", (31, 1, 3)),
-        ("kind = 'parallelism', features = ['a', 'b', 'p'], tolerance = 10, datums = ['P']", (0, 0, 0)),
-        ("kind = 'parallelism', features = ['a', 'b', 'c'], tolerance = 10, datums = ['P']", (32, 1, 3)),
-        ("kind = 'total_runout', features = ['p'], tolerance = 10, datums = ['P']", (31, 1, 3)),
-        ("kind = 'total_runout', features = ['p'], tolerance = 10, datums = ['H(M)']", (31, 1, 3)),
-        ("kind = 'circular_runout', features = ['p'], tolerance = 10, datums = ['H'], separate = true", (0, 0, 0)),
-        ("kind = 'circular_runout', features = ['p'], tolerance = 10, datums = ['H'], separate = 1", (24, 1, 3)),
+        (
+            "kind = 'flat', features = ['p'], tolerance = 10",
+            (25, 1, 3),
+        ),
+        (
+            "kind = 'flatness', features = [], tolerance = 10",
+            (25, 1, 3),
+        ),
+        (
+            "kind = 'flatness', features = ['p', 'q'], tolerance = 10",
+            (25, 1, 3),
+        ),
+        (
+            "kind = 'position', features = ['X', 'X'], tolerance = 10",
+            (28, 1, 3),
+        ),
+        (
+            "kind = 'position', features = ['X', '!'], tolerance = 10",
+            (25, 1, 3),
+        ),
+        (
+            "kind = 'position', features = ['!', 1], tolerance = 10",
+            (24, 1, 3),
+        ),
+        (
+            "kind = 'position', features = ['X'], tolerance = 10",
+            (26, 1, 3),
+        ),
+        (
+            "kind = 'position', features = ['a'], tolerance = 16000001",
+            (25, 1, 3),
+        ),
+        (
+            "kind = 'position', features = ['a'], tolerance = 10, datums = ['X']",
+            (27, 1, 3),
+        ),
+        (
+            "kind = 'position', features = ['a'], tolerance = 10, datums = ['P', 'P(M)']",
+            (28, 1, 3),
+        ),
+        (
+            "kind = 'position', features = ['a'], tolerance = 10, datums = ['P (M)']",
+            (25, 1, 3),
+        ),
+        (
+            "kind = 'position', features = ['a'], tolerance = 10, datums = ['P', 'Q', 'H', 'M']",
+            (25, 1, 3),
+        ),
+        (
+            "kind = 'position', features = ['a'], tolerance = 10, datums = ['P', 'Q', 'H']",
+            (0, 0, 0),
+        ),
+        (
+            "kind = 'position', features = ['a'], tolerance = 10, datums = ['Q', 'P', 'H']",
+            (29, 1, 3),
+        ),
+        (
+            "kind = 'position', features = ['a'], tolerance = 10, datums = ['H(M)', 'Q']",
+            (0, 0, 0),
+        ),
+        (
+            "kind = 'position', features = ['a'], tolerance = 10, datums = ['M(M)']",
+            (23, 1, 3),
+        ),
+        (
+            "kind = 'position', features = ['a'], tolerance = 10, datums = ['P(M)']",
+            (31, 1, 3),
+        ),
+        (
+            "kind = 'position', features = ['a'], tolerance = 10, datums = ['A']",
+            (31, 1, 3),
+        ),
+        (
+            "kind = 'position', features = ['h'], tolerance = 10",
+            (31, 1, 3),
+        ),
+        (
+            "kind = 'position', features = ['h'], tolerance = 10, material = 'mmc'",
+            (23, 1, 3),
+        ),
+        (
+            "kind = 'position', features = ['m'], tolerance = 10, material = 'mmc'",
+            (0, 0, 0),
+        ),
+        (
+            "kind = 'position', features = ['m'], tolerance = 10, material = 'lmc'",
+            (23, 1, 3),
+        ),
+        (
+            "kind = 'profile', features = ['a'], tolerance = 10",
+            (31, 1, 3),
+        ),
+        (
+            "kind = 'profile', features = ['s'], tolerance = 10",
+            (23, 1, 3),
+        ),
+        (
+            "kind = 'profile', features = ['p', 'm'], tolerance = 10, above = 10",
+            (0, 0, 0),
+        ),
+        (
+            "kind = 'position', features = ['a'], tolerance = 10, above = 11",
+            (25, 1, 3),
+        ),
+        (
+            "kind = 'position', features = ['a'], tolerance = 10, above = 10",
+            (31, 1, 3),
+        ),
+        (
+            "kind = 'profile', features = ['p'], tolerance = 10, lower = 1",
+            (31, 1, 3),
+        ),
+        (
+            "kind = 'profile', features = ['p'], tolerance = 10, lower_datums = []",
+            (0, 0, 0),
+        ),
+        (
+            "kind = 'position', features = ['a'], tolerance = 10, datums = ['H(M)'], lower_datums = ['H(M)']",
+            (31, 1, 3),
+        ),
+        (
+            "kind = 'position', features = ['a'], tolerance = 10, datums = ['H(M)'], lower = 1, lower_datums = ['H']",
+            (31, 1, 3),
+        ),
+        (
+            "kind = 'position', features = ['a'], tolerance = 10, datums = ['H(M)'], lower = 1, lower_datums = ['H(M)']",
+            (0, 0, 0),
+        ),
+        (
+            "kind = 'angularity', features = ['p'], tolerance = 10",
+            (31, 1, 3),
+        ),
+        (
+            "kind = 'parallelism', features = ['a', 'b', 'p'], tolerance = 10, datums = ['P']",
+            (0, 0, 0),
+        ),
+        (
+            "kind = 'parallelism', features = ['a', 'b', 'c'], tolerance = 10, datums = ['P']",
+            (32, 1, 3),
+        ),
+        (
+            "kind = 'total_runout', features = ['p'], tolerance = 10, datums = ['P']",
+            (31, 1, 3),
+        ),
+        (
+            "kind = 'total_runout', features = ['p'], tolerance = 10, datums = ['H(M)']",
+            (31, 1, 3),
+        ),
+        (
+            "kind = 'circular_runout', features = ['p'], tolerance = 10, datums = ['H'], separate = true",
+            (0, 0, 0),
+        ),
+        (
+            "kind = 'circular_runout', features = ['p'], tolerance = 10, datums = ['H'], separate = 1",
+            (24, 1, 3),
+        ),
     ];
     for (keys, want) in cases {
         let text = format!(in rt.alloc(); "frame = [{{name = 'f', {keys}}}]\n")?;

@@ -1,4 +1,4 @@
-use Rattle.std.proofs.Common.{ℕ, ◌+◌, ◌*◌, nat_eq, List, length, get_or, ap, ◌∙◌}
+use Rattle.std.proofs.Common.{◌+◌, ◌*◌, nat_eq, length, get_or, ap, ◌∙◌}
 use Rattle.std.proofs.lemmas.List.{length-replicate}
 use Rattle.std.specs.List.{list_any}
 use Rattle.gd_frames.proofs.Counting.{counts_none}

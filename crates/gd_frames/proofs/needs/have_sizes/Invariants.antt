@@ -1,4 +1,4 @@
-use Rattle.std.proofs.Common.{◌≡◌, ℕ, Bool, ◌&&◌, drop, slice_get}
+use Rattle.std.proofs.Common.{◌≡◌, ℕ, ◌&&◌, drop, slice_get}
 use Rattle.std.specs.List.{list_all}
 use Rattle.gd_frames.specs.Combinations.{passes}
 use Rattle.gd_frames.specs.Needs.{has_diameter, has_radius}

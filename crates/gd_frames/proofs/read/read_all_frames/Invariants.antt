@@ -1,4 +1,4 @@
-use Rattle.std.proofs.Common.{◌≡◌, ◌≤◌, length, map, drop}
+use Rattle.std.proofs.Common.{◌≡◌, length, map, drop}
 use Rattle.toml.specs.View.{table_view}
 use Rattle.gd_frames.specs.Entries.{datums_read, features_read, frames_read}
 use Rattle.gd_frames.specs.Files.{tables_from, with_frame}

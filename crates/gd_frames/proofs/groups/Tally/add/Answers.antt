@@ -1,4 +1,4 @@
-use Rattle.std.proofs.Common.{◌≡◌, ℕ, ◌+◌, ◌*◌, ◌≤◌, cond, true, nat_eq, List, length, take, ap, ◌∙◌, arith}
+use Rattle.std.proofs.Common.{◌≡◌, ℕ, ◌+◌, ◌*◌, cond, true, nat_eq, length, take, ap, ◌∙◌, arith}
 use Rattle.std.specs.List.{list_any}
 use Rattle.gd_frames.specs.Groups.{has_group}
 use Rattle.gd_frames.proofs.Counting.{counted_all, counted_contacts, counts_small, known, length_bumped, length_contacts, met_more, new_group, old_group}
