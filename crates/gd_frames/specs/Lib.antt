@@ -1,0 +1,7 @@
+pub mod Combinations
+pub mod Groups
+pub mod Needs
+pub mod Counts
+pub mod Files
+pub mod Tallies
+pub mod Entries

@@ -1,0 +1,4 @@
+pub mod Rules
+pub mod Documents
+pub mod Contents
+pub mod Keys

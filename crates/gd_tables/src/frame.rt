@@ -1,0 +1,147 @@
+// A frame table.
+ghost use Rattle.std.specs.Prelude.{◌≡◌, ◌<◌, ◌≤◌, [], codes, length, false, IfOk, IfSome};
+ghost use Rattle.toml.specs.View.{table_view, view};
+ghost use Rattle.gd_tables.specs.Grammar.{features_in, frame_in, words_in};
+ghost use Rattle.gd_tables.specs.Kinds.{frame_of};
+ghost use Rattle.gd_tables.specs.Words.{kind_of, material_of};
+ghost use Rattle.gd_tables.specs.declared.kind.Material.TheVariants as material;
+ghost use Rattle.gd_keys.specs.Contents.{number, truth, word};
+ghost use Rattle.gd_keys.specs.Keys.{default_to, is_among, needed};
+ghost use Rattle.gd_keys.specs.Rules.{Gives};
+
+use crate::feature::new_name;
+use crate::file::{DatumDef, DatumRef, FeatureDef, FrameDef};
+use crate::kind::{Kind, Material, kind_of, material_of};
+use crate::listed::Listed;
+use crate::word::{features_in, words_in};
+use gd_keys::{
+    KeyFault, Rule, needed, number_in, only_keys, optional_number, text_in, truth_in, value_at,
+};
+use std::alloc::Global;
+use toml::{Table, Value};
+
+/// The greatest tolerance, in units.
+const TOLERANCE: u32 = 16_000_000;
+
+/// A frame table, whose name none of the earlier ones has.
+#[tactic(auto, unfolding(crate::specs::Grammar::frame_in))]
+pub fn read_frame(
+    alloc: Global,
+    features: &Listed<FeatureDef>,
+    datums: &Listed<DatumDef>,
+    earlier: &Listed<FrameDef>,
+    table: &Table,
+) -> Result<FrameDef, KeyFault>
+    requires features { length features.now.names.keys ≤ 1024 }
+    requires datums { length datums.now.names.keys ≤ 1024 }
+    ensures frame { Gives frame_of result (frame_in features.now.names.keys datums.now.names.keys earlier.now.names.keys (table_view table.now)) }
+    ensures new { IfOk result (λ f. is_among earlier.now.names.keys f.name ≡ false) }
+{
+    only_keys(
+        table,
+        &[
+            "name",
+            "kind",
+            "features",
+            "tolerance",
+            "datums",
+            "material",
+            "above",
+            "lower",
+            "lower_datums",
+            "separate",
+        ],
+    )?;
+    let name = new_name(alloc, earlier, table)?;
+    let kind = read_kind(table)?;
+    let places = read_features(alloc, table, kind, features)?;
+    let tolerance = read_tolerance(table)?;
+    let words = read_words(alloc, table, "datums", datums)?;
+    let material = read_material(table)?;
+    let above = optional_number(table, "above", tolerance)?;
+    let lower = optional_number(table, "lower", tolerance)?;
+    let lower_datums = read_words(alloc, table, "lower_datums", datums)?;
+    let separate = read_separate(table)?;
+    Ok(FrameDef {
+        name,
+        kind,
+        features: places,
+        tolerance,
+        datums: words,
+        material,
+        above,
+        lower,
+        lower_datums,
+        separate,
+    })
+}
+
+fn read_kind(table: &Table) -> Result<Kind, KeyFault>
+    ensures { Gives (λ k. k) result (needed (codes "kind") (word kind_of) (table_view table.now)) }
+{
+    let word = text_in(needed(table, "kind")?)?;
+    match kind_of(word) {
+        Some(kind) => Ok(kind),
+        None => Err(KeyFault::Rule(Rule::Range)),
+    }
+}
+
+fn read_features(
+    alloc: Global,
+    table: &Table,
+    kind: Kind,
+    features: &Listed<FeatureDef>,
+) -> Result<Vec<u32>, KeyFault>
+    requires { length features.now.names.keys ≤ 1024 }
+    ensures { Gives (λ v. v.items) result (needed (codes "features") (features_in features.now.names.keys kind) (table_view table.now)) }
+{
+    features_in(alloc, needed(table, "features")?, kind, features)
+}
+
+fn read_tolerance(table: &Table) -> Result<u32, KeyFault>
+    ensures { Gives (λ n. n) result (needed (codes "tolerance") (number 16000000) (table_view table.now)) }
+{
+    number_in(needed(table, "tolerance")?, TOLERANCE)
+}
+
+fn read_words(
+    alloc: Global,
+    table: &Table,
+    key: &str,
+    datums: &Listed<DatumDef>,
+) -> Result<Vec<DatumRef>, KeyFault>
+    requires { length datums.now.names.keys ≤ 1024 }
+    ensures { Gives (λ v. v.items) result (default_to [] key.now (words_in datums.now.names.keys) (table_view table.now)) }
+{
+    match value_at(table, key) {
+        Some(value) => words_in(alloc, value, datums),
+        None => Ok(Vec::new(alloc)),
+    }
+}
+
+fn read_material(table: &Table) -> Result<Material, KeyFault>
+    ensures { Gives (λ m. m) result (default_to material.Rfs (codes "material") (word material_of) (table_view table.now)) }
+{
+    match value_at(table, "material") {
+        Some(value) => material_in(value),
+        None => Ok(Material::Rfs),
+    }
+}
+
+fn material_in(value: &Value) -> Result<Material, KeyFault>
+    ensures { Gives (λ m. m) result (word material_of (view value.now)) }
+{
+    match material_of(text_in(value)?) {
+        Some(material) => Ok(material),
+        None => Err(KeyFault::Rule(Rule::Range)),
+    }
+}
+
+fn read_separate(table: &Table) -> Result<bool, KeyFault>
+    ensures { Gives (λ b. b) result (default_to false (codes "separate") truth (table_view table.now)) }
+{
+    match value_at(table, "separate") {
+        Some(value) => truth_in(value),
+        None => Ok(false),
+    }
+}
