@@ -18,8 +18,9 @@ use gd_dir::direction;
 use gd_form::flat_task;
 use gd_points::PointTable;
 use gd_report::{Line, accept_line, open_line, reject_line};
-use gd_search::{Outcome, leaves, search};
+use gd_search::{Outcome, search};
 use gd_vec::V3;
+use gd_verdict::leaves;
 use std::alloc::{AllocError, Global};
 use std::thread::Threads;
 
