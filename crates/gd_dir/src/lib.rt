@@ -6,6 +6,6 @@ mod laws;
 mod ratio;
 mod shape;
 
-pub use boxes::{centre_of, dir_box, direction};
+pub use boxes::{centre_of, direction, face_box};
 pub use laws::faces_cover;
 pub use shape::{DirBox, FormShape};

@@ -1,5 +1,5 @@
 use Rattle.gd_dir.proofs.Enclosure.{box_encloses, box_fits, box_widths}
-use Rattle.gd_dir.proofs.boxes.dir_box.Goals as goal
+use Rattle.gd_dir.proofs.boxes.face_box.Goals as goal
 
 pub returns-clause-fits : goal.returns-clause-fits
 returns-clause-fits c = rw c.face_box.ensures (box_fits c.args.c.now c.requires.cell)
