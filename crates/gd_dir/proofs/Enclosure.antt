@@ -3,7 +3,7 @@ use Rattle.std.proofs.Common.{arith, ◌≡◌, refl, ℕ, zero, suc, ◌≤◌,
 use Rattle.std.proofs.lemmas.Int.{ints}
 use Rattle.gd_cells.specs.Grid.{halvings}
 use Rattle.gd_cells.specs.declared.cell.Cell.{Cell}
-use Rattle.gd_dir.specs.Boxes.{Encloses, HoldsDirection, IsAsWideAs, IsBelow, IsBox, box_of, direction_of}
+use Rattle.gd_dir.specs.Boxes.{Encloses, HoldsDirection, IsAsWideAs, IsBelow, IsBox, ORIGIN, box_of, direction_of}
 use Rattle.gd_dir.specs.Directions.{RatioWithin, entry, first_other, second_other}
 use Rattle.gd_dir.specs.Faces.{IsFaceCell, high_end, faces, index_at, low_end}
 use Rattle.gd_dir.proofs.Ratios.{on_face}
@@ -15,7 +15,7 @@ itself : (k : ℤ) → RatioWithin (pos (2 ^ 30)) (pos (2 ^ 30)) k k
 itself k = (omega (arith, ints), omega (arith, ints))
 
 holds_with : (c : Cell) (axis : ℕ) (n : V3) → 1 ≤ axis → axis ≤ 3 → RatioWithin (low_end 0 c) (high_end 0 c) (entry axis n) (entry (first_other axis) n) → RatioWithin (low_end 1 c) (high_end 1 c) (entry axis n) (entry (second_other axis) n)
-    → HoldsDirection (record { lead = axis; lo = direction_of axis (low_end 0 c) (low_end 1 c); hi = direction_of axis (high_end 0 c) (high_end 1 c) }) (entry axis n) n
+    → HoldsDirection (record { lead = axis; lo = direction_of axis (low_end 0 c) (low_end 1 c); hi = direction_of axis (high_end 0 c) (high_end 1 c); offset_lo = ORIGIN; offset_hi = ORIGIN }) (entry axis n) n
 holds_with c zero n one three a b = absurd (omega arith)
 holds_with c (suc zero) n one three a b = record { x = itself n.x; y = a; z = b }
 holds_with c (suc (suc zero)) n one three a b = record { x = a; y = itself n.y; z = b }
@@ -47,7 +47,7 @@ corners_ordered (suc (suc zero)) a b p q one three h k = record { x = h; y = ome
 corners_ordered (suc (suc (suc zero))) a b p q one three h k = record { x = h; y = k; z = omega (arith, ints) }
 corners_ordered (suc (suc (suc (suc n)))) a b p q one three h k = absurd (omega arith)
 
-corner_within : (root : ℕ) (a b : ℤ) → 1 ≤ root → root ≤ 3 → unsigned_abs a ≤ 2 ^ 30 → unsigned_abs b ≤ 2 ^ 30 → IsWithin (2 ^ 30) (direction_of root a b)
+pub corner_within : (root : ℕ) (a b : ℤ) → 1 ≤ root → root ≤ 3 → unsigned_abs a ≤ 2 ^ 30 → unsigned_abs b ≤ 2 ^ 30 → IsWithin (2 ^ 30) (direction_of root a b)
 corner_within zero a b one three h k = absurd (omega arith)
 corner_within (suc zero) a b one three h k = record { x = omega arith; y = h; z = k }
 corner_within (suc (suc zero)) a b one three h k = record { x = h; y = omega arith; z = k }
@@ -67,4 +67,7 @@ box_fits c f =
       ordered = corners_ordered c.root (low_end 0 c) (low_end 1 c) (high_end 0 c) (high_end 1 c) f.first_root f.last_root (omega (arith, ints)) (omega (arith, ints));
       lo = corner_within c.root (low_end 0 c) (low_end 1 c) f.first_root f.last_root first.0 second.0;
       hi = corner_within c.root (high_end 0 c) (high_end 1 c) f.first_root f.last_root first.1 second.1;
+      offset_ordered = record { x = omega (arith, ints); y = omega (arith, ints); z = omega (arith, ints) };
+      offset_lo = record { x = omega arith; y = omega arith; z = omega arith };
+      offset_hi = record { x = omega arith; y = omega arith; z = omega arith };
     }

@@ -1,5 +1,5 @@
--- Boxes of directions: the corner with the least entries and the corner with the greatest, in 2^-30.
-use Rattle.std.specs.Prelude.{ℕ, ℤ, pos, ◌^◌, ◌≡◌, ◌≤ℤ◌, ◌+ℤ◌, ◌==◌, if◌then◌else◌}
+-- Boxes of directions, in 2^-30, and of offsets, in fine units of 2^-16: the corners with the least entries and those with the greatest.
+use Rattle.std.specs.Prelude.{ℕ, ℤ, pos, ◌^◌, ◌≡◌, ◌≤ℤ◌, ◌+ℤ◌, ◌*ℤ◌, ◌==◌, if◌then◌else◌}
 use Rattle.gd_cells.specs.declared.cell.Cell.{Cell}
 use Rattle.gd_dir.specs.Directions.{LeadsAlong, LiesIn, RatioWithin, entry, first_other, second_other}
 use Rattle.gd_dir.specs.Faces.{high_end, low_end, width_of}
@@ -13,9 +13,19 @@ direction_of root a b =
     if root == 1 then record { x = pos (2 ^ 30); y = a; z = b }
     else (if root == 2 then record { x = a; y = pos (2 ^ 30); z = b } else record { x = a; y = b; z = pos (2 ^ 30) })
 
--- the box of a cell: 1 along its root's axis, and its boxes of the ratios along the others
+-- no offset
+abbrev pub ORIGIN : V3
+ORIGIN = record { x = pos 0; y = pos 0; z = pos 0 }
+
+-- the box of a cell of two ratios: 1 along its root's axis, and its boxes of the ratios along the others
 abbrev pub box_of : Cell → DirBox
-box_of c = record { lead = c.root; lo = direction_of c.root (low_end 0 c) (low_end 1 c); hi = direction_of c.root (high_end 0 c) (high_end 1 c) }
+box_of c = record {
+  lead = c.root;
+  lo = direction_of c.root (low_end 0 c) (low_end 1 c);
+  hi = direction_of c.root (high_end 0 c) (high_end 1 c);
+  offset_lo = ORIGIN;
+  offset_hi = ORIGIN;
+}
 
 -- each entry of a is at most that of b
 pub record IsBelow (a b : V3) : Type 0 where
@@ -23,17 +33,30 @@ pub record IsBelow (a b : V3) : Type 0 where
   pub y : a.y ≤ℤ b.y
   pub z : a.z ≤ℤ b.z
 
--- the corners are in order, and no entry is larger than 1
+-- the corners are in order, no entry of a direction is larger than 1, and no offset than 2^28 units
 pub record IsBox (b : DirBox) : Type 0 where
   pub ordered : IsBelow b.lo b.hi
   pub lo : IsWithin (2 ^ 30) b.lo
   pub hi : IsWithin (2 ^ 30) b.hi
+  pub offset_ordered : IsBelow b.offset_lo b.offset_hi
+  pub offset_lo : IsWithin (2 ^ 44) b.offset_lo
+  pub offset_hi : IsWithin (2 ^ 44) b.offset_hi
 
 -- a box holds a direction with a leading entry: the ratio of each entry to that one lies between the corners
 pub record HoldsDirection (b : DirBox) (lead : ℤ) (n : V3) : Type 0 where
   pub x : RatioWithin b.lo.x b.hi.x lead n.x
   pub y : RatioWithin b.lo.y b.hi.y lead n.y
   pub z : RatioWithin b.lo.z b.hi.z lead n.z
+
+-- o over s units, in fine units, is no less than lo and no greater than hi, where s is positive: stated by products, so that nothing is rounded
+abbrev pub OffsetWithin : ℤ → ℤ → ℤ → ℤ → Type 0
+OffsetWithin lo hi s o = ((lo *ℤ s) ≤ℤ (pos (2 ^ 16) *ℤ o)) × ((pos (2 ^ 16) *ℤ o) ≤ℤ (hi *ℤ s))
+
+-- a box holds an offset, the vector o over the whole number s
+pub record HoldsOffset (b : DirBox) (s : ℤ) (o : V3) : Type 0 where
+  pub x : OffsetWithin b.offset_lo.x b.offset_hi.x s o.x
+  pub y : OffsetWithin b.offset_lo.y b.offset_hi.y s o.y
+  pub z : OffsetWithin b.offset_lo.z b.offset_hi.z s o.z
 
 -- the box holds every direction that leads along an axis and lies in the cell
 abbrev pub Encloses : DirBox → Cell → Type 0

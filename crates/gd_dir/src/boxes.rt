@@ -6,7 +6,7 @@ ghost use Rattle.gd_dir.specs.Faces.{IsFaceCell, middle};
 ghost use Rattle.gd_vec.specs.Vector.{IsWithin};
 
 use crate::ratio::{ONE, ratio_box, ratio_middle};
-use crate::shape::{DirBox, FormShape};
+use crate::shape::DirBox;
 use gd_cells::Cell;
 use gd_vec::V3;
 
@@ -40,21 +40,22 @@ pub fn direction(root: u32, first: i64, second: i64) -> V3
     }
 }
 
-/// The directions of a cell, in 2^-30.
-pub fn dir_box(shape: FormShape, c: &Cell) -> DirBox
+/// No offset.
+pub const ORIGIN: V3 = V3 { x: 0, y: 0, z: 0 };
+
+/// The directions of a cell of two ratios, in 2^-30, with no offset.
+pub fn face_box(c: &Cell) -> DirBox
     requires cell { IsFaceCell c.now }
     ensures ends { result ≡ box_of c.now }
     ensures fits { IsBox result }
     ensures encloses { Encloses result c.now }
     ensures widths { IsAsWideAs result c.now }
 {
-    match shape {
-        FormShape::Flat => face_box(c),
-    }
+    box_at(c)
 }
 
 // The box of a cell of two ratios.
-fn face_box(c: &Cell) -> DirBox
+fn box_at(c: &Cell) -> DirBox
     requires { IsFaceCell c.now }
     ensures { result ≡ box_of c.now }
 {
@@ -64,6 +65,8 @@ fn face_box(c: &Cell) -> DirBox
         lead: c.root,
         lo: direction(c.root, first.lo, second.lo),
         hi: direction(c.root, first.hi, second.hi),
+        offset_lo: ORIGIN,
+        offset_hi: ORIGIN,
     }
 }
 
@@ -94,7 +97,7 @@ mod tests {
         index[0] = first;
         index[1] = second;
         let c = Cell { root, level, index };
-        let found = dir_box(FormShape::Flat, &c);
+        let found = face_box(&c);
         (
             (found.lo.x, found.lo.y, found.lo.z),
             (found.hi.x, found.hi.y, found.hi.z),

@@ -158,7 +158,7 @@ mod tests {
     use super::*;
     use crate::task::flat_task;
     use gd_cells::root_cell;
-    use gd_dir::{FormShape, dir_box};
+    use gd_dir::face_box;
     use gd_points::read_points;
     use std::alloc::Global;
 
@@ -171,7 +171,7 @@ mod tests {
         if table.is_empty() {
             return None;
         }
-        let face = dir_box(FormShape::Flat, &root_cell(root));
+        let face = face_box(&root_cell(root));
         first_evidence_in(&face, &flat_task(&table, 10).points, 10)
     }
 

@@ -8,7 +8,7 @@ use crate::flat::{first_evidence_in, is_refuted_at};
 use crate::points::Points;
 use crate::spread::lies_within;
 use gd_cells::{Cell, Evidence, Task, Witness, split_cell, witness_of, zeros_behind};
-use gd_dir::{FormShape, centre_of, dir_box, direction};
+use gd_dir::{centre_of, direction, face_box};
 use gd_points::PointTable;
 
 /// The ratios -1 and 1 have this size, in 2^-30.
@@ -74,7 +74,7 @@ impl<'a> Task for FormTask<'a> {
 
     fn refutes(&self, cell: &Cell) -> Option<Evidence> {
         first_evidence_in(
-            &dir_box(FormShape::Flat, cell),
+            &face_box(cell),
             &self.points,
             self.tolerance,
         )
@@ -82,7 +82,7 @@ impl<'a> Task for FormTask<'a> {
 
     fn refutes_at(&self, cell: &Cell, evidence: &Evidence) -> bool {
         is_refuted_at(
-            &dir_box(FormShape::Flat, cell),
+            &face_box(cell),
             &self.points,
             self.tolerance,
             evidence,
