@@ -2,6 +2,7 @@
 #![tactic(auto)]
 
 mod extremes;
+mod face;
 mod flat;
 mod points;
 mod products;
