@@ -68,6 +68,10 @@ abbrev pub AreInRange : List Coordinate → List Fraction → Type 0
 AreInRange ks vs = (n : ℕ) → n < length ks → IsBetween (coordinate_at ks n).low (high (coordinate_at ks n)) (fraction_at vs n).under (fraction_at vs n).value
 
 -- ---- places of the grid
+-- the number of a witness at a place, from 0
+abbrev pub number_at : ℕ → Witness → ℤ
+number_at n w = get_or w.at n (pos 0)
+
 -- the middles of a cell's boxes, from the coordinate with a number on
 abbrev pub middles_from : Grid → Cell → ℕ → List Coordinate → List ℤ
 middles_from g c n [] = []

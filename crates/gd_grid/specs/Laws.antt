@@ -3,7 +3,8 @@ use Rattle.std.specs.Prelude.{ℕ, ℤ, pos, suc, ◌+◌, ◌*◌, ◌<◌, ◌
 use Rattle.gd_cells.specs.Grid.{Grid, IsCell, MOST_DIMS, cell_of, halvings}
 use Rattle.gd_cells.specs.Laws.{IsGrid, NamesPlace}
 use Rattle.gd_cells.specs.declared.cell.Cell.{Cell}
-use Rattle.gd_grid.specs.Cells.{AreInRange, Fraction, IsGridOf, LieIn, centre_of, coordinate_at, high_end, high_in, is_in_range, low_end, low_in, middle, middle_in}
+use Rattle.gd_cells.specs.declared.cell.Witness.{Witness}
+use Rattle.gd_grid.specs.Cells.{AreInRange, Fraction, IsGridOf, LieIn, centre_of, coordinate_at, high_end, high_in, is_in_range, low_end, low_in, middle, middle_in, number_at}
 use Rattle.gd_grid.specs.Coordinates.{IsCoordinate, high}
 use Rattle.gd_grid.specs.Turns.{HasBox, grid_of, turns}
 use Rattle.gd_grid.specs.declared.coordinate.Coordinate.{Coordinate}
@@ -70,3 +71,13 @@ BoxesAreInRange = (g : Grid) (ks : List Coordinate) (c : Cell) (n : ℕ) → IsG
 abbrev pub CentresAreInRange : Type 0
 CentresAreInRange = (g : Grid) (ks : List Coordinate) (c : Cell) → IsGridOf g ks → IsGrid g → g.numbers ≡ length ks → IsCell g c
     → (is_in_range g.roots ks (centre_of g ks c) ≡ true) × (NamesPlace g (centre_of g ks c))
+
+-- what it means that a witness is in range: it names a root, each number lies in the range of its coordinate, and 0 stands after them
+pub record IsPlaceInRange (roots : ℕ) (ks : List Coordinate) (w : Witness) : Type 0 where
+  pub first : 1 ≤ w.root
+  pub last : w.root ≤ roots
+  pub numbers : (n : ℕ) → n < length ks → ((coordinate_at ks n).low ≤ℤ number_at n w) × (number_at n w ≤ℤ high (coordinate_at ks n))
+  pub rest : (n : ℕ) → length ks ≤ n → number_at n w ≡ pos 0
+
+abbrev pub InRangeMeans : Type 0
+InRangeMeans = (roots : ℕ) (ks : List Coordinate) (w : Witness) → is_in_range roots ks w ≡ true → IsPlaceInRange roots ks w

@@ -65,7 +65,7 @@ fn turn_box(r: &Ranges, c: &Cell) -> RotationBox
 
 // The component that leads in the cells of a root, from 0.
 #[inline]
-fn face_of(turn: TurnRange, root: u32) -> u32
+pub fn face_of(turn: TurnRange, root: u32) -> u32
     requires { 1 ≤ root }
     ensures { result ≡ face_of turn root }
 {
