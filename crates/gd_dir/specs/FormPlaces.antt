@@ -46,5 +46,7 @@ offset_of Cylinder d w = offset_at w.root (number_at 2 w) (number_at 3 w)
 
 -- a witness that is in range stands for a candidate, over 2^16, whose offset is in range
 abbrev pub WitnessesAreCandidates : Type 0
-WitnessesAreCandidates = (shape : FormShape) (d : V3) (shift : ℕ) (w : Witness) → is_in_range (roots_of shape) (coordinates_of shape shift) w ≡ true
-    → IsCandidate shape d (axis_at shape d w) (direction_at shape d w) (pos (2 ^ 16)) (offset_of shape d w) × IsNear shift (pos (2 ^ 16)) (offset_of shape d w)
+WitnessesAreCandidates = (shape : FormShape) (d : V3) (shift : ℕ) (w : Witness)
+    → is_in_range (roots_of shape) (coordinates_of shape shift) w ≡ true
+    → IsCandidate shape d (axis_at shape d w) (direction_at shape d w) (pos (2 ^ 16)) (offset_of shape d w)
+    × IsNear shift (pos (2 ^ 16)) (offset_of shape d w)

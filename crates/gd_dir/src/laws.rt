@@ -2,7 +2,8 @@ ghost use Rattle.gd_dir.specs.Covers.{BoxesNest, FacesCover, GridHasFaceCells, H
 ghost use Rattle.gd_dir.specs.FormBoxes.{FormBoxesNest, FormHalvesCover, FormRootsCover, NoLineIsLost};
 ghost use Rattle.gd_dir.specs.FormPlaces.{WitnessesAreCandidates};
 
-/// What the cells of three faces are: the cells of the grid, which cover every direction, and whose boxes lie within one another.
+/// What the cells of three faces are: the cells of the grid, which cover every direction, and whose boxes lie within
+/// one another.
 /// It does nothing when it runs; a proof cites its clauses.
 #[inline(always)]
 pub fn faces_cover()

@@ -40,7 +40,8 @@ pub fn form_finest_level(shape: FormShape, shift: u32) -> u32
     gd_grid::finest_level(&all[..form_dims(shape) as usize])
 }
 
-/// Whether a witness names a root of a form and its numbers are in range: two ratios, in 2^-30, and two offsets, in fine
+/// Whether a witness names a root of a form and its numbers are in range: two ratios, in 2^-30, and two offsets, in
+/// fine
 /// units of 2^-16.
 pub fn is_form_in_range(shape: FormShape, shift: u32, w: &Witness) -> bool
     requires { shift ≤ LARGE_SHIFT }

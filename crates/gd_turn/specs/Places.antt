@@ -33,4 +33,5 @@ pub record IsAssignmentIn (r : Ranges) (a : Assignment) : Type 0 where
 
 -- a witness that is in range stands for such a one
 abbrev pub WitnessesArePlacements : Type 0
-WitnessesArePlacements = (r : Ranges) (w : Witness) → AreRanges r → is_in_range (roots_of r.turn) (coordinates_of r) w ≡ true → IsAssignmentIn r (assignment_at r w)
+WitnessesArePlacements = (r : Ranges) (w : Witness) → AreRanges r
+    → is_in_range (roots_of r.turn) (coordinates_of r) w ≡ true → IsAssignmentIn r (assignment_at r w)
