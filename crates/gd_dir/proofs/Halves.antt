@@ -1,5 +1,6 @@
 -- The cells of three faces cover every direction, and the boxes of their halves lie in those of the cells.
-use Rattle.std.proofs.Common.{arith, ◌≡◌, refl, sym, ap, ◌∙◌, ℕ, zero, suc, ◌+◌, ◌-◌, ◌*◌, ◌/◌, ◌^◌, ◌≤◌, ◌<◌, ℤ, pos, neg_ℤ, ◌+ℤ◌, ◌≤ℤ◌, ◌<ℤ◌, ◌⊎◌, inl, inr, unsigned_abs, List, [], ◌∷◌}
+use Rattle.std.proofs.Common.{arith, ◌≡◌, refl, sym, ap, ◌∙◌, ℕ, zero, suc, ◌+◌, ◌-◌, ◌*◌, ◌/◌, ◌^◌, ◌≤◌, ◌<◌, ℤ, pos}
+use Rattle.std.proofs.Common.{neg_ℤ, ◌+ℤ◌, ◌≤ℤ◌, ◌<ℤ◌, ◌⊎◌, inl, inr, unsigned_abs, List, [], ◌∷◌}
 use Rattle.std.proofs.lemmas.Int.{ints}
 use Rattle.std.proofs.lemmas.Nat.{pow-add, pow_pos}
 use Rattle.std.proofs.Math.Nat.{mul-div_cancel_left}
@@ -68,21 +69,28 @@ high_is (suc (suc n)) c h few = absurd (omega arith)
 
 -- ---- directions that lie in a cell, as fractions
 abbrev numbers : ℕ → V3 → List cells.Fraction
-numbers axis n = ratio_to (entry axis n) (entry (first_other axis) n) ∷ ratio_to (entry axis n) (entry (second_other axis) n) ∷ []
+numbers axis n = ratio_to (entry axis n) (entry (first_other axis) n) ∷ ratio_to (entry axis n)
+    (entry (second_other axis) n) ∷ []
 
 same_ends : (lo hi lo' hi' k x : ℤ) → lo ≡ lo' → hi ≡ hi' → RatioWithin lo hi k x → RatioWithin lo' hi' k x
 same_ends lo hi lo' hi' k x e f h = rw (sym e, sym f) h
 
-to_fractions : (c : Cell) (axis : ℕ) (n : V3) → c.level ≤ 60 → LiesIn c axis n → cells.LieIn faces ratios (numbers axis n) c
-to_fractions c axis n few lies zero h = same_ends _ _ _ _ (entry axis n) (entry (first_other axis) n) (low_is 0 c h few) (high_is 0 c h few) lies.first
-to_fractions c axis n few lies (suc zero) h = same_ends _ _ _ _ (entry axis n) (entry (second_other axis) n) (low_is 1 c h few) (high_is 1 c h few) lies.second
+to_fractions : (c : Cell) (axis : ℕ) (n : V3) → c.level ≤ 60 → LiesIn c axis n
+    → cells.LieIn faces ratios (numbers axis n) c
+to_fractions c axis n few lies zero h = same_ends _ _ _ _ (entry axis n) (entry (first_other axis) n)
+    (low_is 0 c h few) (high_is 0 c h few) lies.first
+to_fractions c axis n few lies (suc zero) h = same_ends _ _ _ _ (entry axis n) (entry (second_other axis) n)
+    (low_is 1 c h few) (high_is 1 c h few) lies.second
 to_fractions c axis n few lies (suc (suc m)) h = absurd (omega arith)
 
-from_fractions : (c : Cell) (axis : ℕ) (n : V3) → c.level ≤ 60 → c.root ≡ axis → cells.LieIn faces ratios (numbers axis n) c → LiesIn c axis n
+from_fractions : (c : Cell) (axis : ℕ) (n : V3) → c.level ≤ 60 → c.root ≡ axis
+    → cells.LieIn faces ratios (numbers axis n) c → LiesIn c axis n
 from_fractions c axis n few e lies = record {
   root = e;
-  first = same_ends _ _ _ _ (entry axis n) (entry (first_other axis) n) (sym (low_is 0 c (omega arith) few)) (sym (high_is 0 c (omega arith) few)) (lies 0 (omega arith));
-  second = same_ends _ _ _ _ (entry axis n) (entry (second_other axis) n) (sym (low_is 1 c (omega arith) few)) (sym (high_is 1 c (omega arith) few)) (lies 1 (omega arith));
+  first = same_ends _ _ _ _ (entry axis n) (entry (first_other axis) n) (sym (low_is 0 c (omega arith) few))
+      (sym (high_is 0 c (omega arith) few)) (lies 0 (omega arith));
+  second = same_ends _ _ _ _ (entry axis n) (entry (second_other axis) n) (sym (low_is 1 c (omega arith) few))
+      (sym (high_is 1 c (omega arith) few)) (lies 1 (omega arith));
 }
 
 face_level : (root l p : ℕ) → l ≤ 60 → (face_cell root l p).level ≤ 60
@@ -91,12 +99,15 @@ face_level root l p few = rw (level_at faces root l p) few
 -- ---- the halves cover the cell
 pub halves_cover : HalvesCover
 halves_cover root l p axis n above lies =
-    let root_at : (q m : ℕ) → (face_cell root q m).root ≡ axis = λ q m. root_is faces root q m ∙ sym (root_is faces root l p) ∙ lies.root in
+    let root_at : (q m : ℕ) → (face_cell root q m).root
+    ≡ axis = λ q m. root_is faces root q m ∙ sym (root_is faces root l p) ∙ lies.root in
     let few : (m : ℕ) → (face_cell root (suc l) m).level ≤ 60 = λ m. face_level root (suc l) m (omega (arith, above)) in
-    elim (halves.halves_cover faces ratios (numbers axis n) root l p fits above (to_fractions (face_cell root l p) axis n (face_level root l p (omega (arith, above))) lies))
+    elim (halves.halves_cover faces ratios (numbers axis n) root l p fits above (to_fractions (face_cell root l p) axis
+    n (face_level root l p (omega (arith, above))) lies))
     as (λ _. (LiesIn (face_cell root (suc l) (2 * p)) axis n) ⊎ (LiesIn (face_cell root (suc l) (2 * p + 1)) axis n)) [
       | inl a ↦ inl (from_fractions (face_cell root (suc l) (2 * p)) axis n (few (2 * p)) (root_at (suc l) (2 * p)) a)
-      | inr a ↦ inr (from_fractions (face_cell root (suc l) (2 * p + 1)) axis n (few (2 * p + 1)) (root_at (suc l) (2 * p + 1)) a)
+      | inr a ↦ inr (from_fractions (face_cell root (suc l) (2 * p + 1)) axis n (few (2 * p + 1)) (root_at (suc l)
+          (2 * p + 1)) a)
     ]
 
 -- ---- the whole faces cover all directions
@@ -106,17 +117,34 @@ whole k x h s = (omega (arith, ints), omega (arith, ints))
 pub faces_cover : FacesCover
 unfolding cell_of
 faces_cover zero n one three h = absurd (omega arith)
-faces_cover (suc zero) n one three h = record { root = refl; first = whole n.x n.y h.positive h.y; second = whole n.x n.z h.positive h.z }
-faces_cover (suc (suc zero)) n one three h = record { root = refl; first = whole n.y n.x h.positive h.x; second = whole n.y n.z h.positive h.z }
-faces_cover (suc (suc (suc zero))) n one three h = record { root = refl; first = whole n.z n.x h.positive h.x; second = whole n.z n.y h.positive h.y }
+faces_cover (suc zero) n one three h = record {
+  root = refl;
+  first = whole n.x n.y h.positive h.y;
+  second = whole n.x
+      n.z h.positive h.z;
+}
+faces_cover (suc (suc zero)) n one three h = record {
+  root = refl;
+  first = whole n.y n.x h.positive h.x;
+  second = whole
+      n.y n.z h.positive h.z;
+}
+faces_cover (suc (suc (suc zero))) n one three h = record {
+  root = refl;
+  first = whole n.z n.x h.positive h.x;
+  second =
+      whole n.z n.y h.positive h.y;
+}
 faces_cover (suc (suc (suc (suc k)))) n one three h = absurd (omega arith)
 
 -- ---- the boxes of halves lie in the cell's
-same_nest : (lo hi a b lo' hi' a' b' : ℤ) → lo ≡ lo' → hi ≡ hi' → a ≡ a' → b ≡ b' → (lo' ≤ℤ a') × (b' ≤ℤ hi') → (lo ≤ℤ a) × (b ≤ℤ hi)
+same_nest : (lo hi a b lo' hi' a' b' : ℤ) → lo ≡ lo' → hi ≡ hi' → a ≡ a' → b ≡ b' → (lo' ≤ℤ a') × (b' ≤ℤ hi')
+    → (lo ≤ℤ a) × (b ≤ℤ hi)
 same_nest lo hi a b lo' hi' a' b' e f g i h = rw (e, f, g, i) h
 
 inner : (r root l p side : ℕ) → r < 2 → l < 60 → side < 2
-    → (low_end r (face_cell root l p) ≤ℤ low_end r (face_cell root (suc l) (2 * p + side))) × (high_end r (face_cell root (suc l) (2 * p + side)) ≤ℤ high_end r (face_cell root l p))
+    → (low_end r (face_cell root l p) ≤ℤ low_end r (face_cell root (suc l) (2 * p + side)))
+    × (high_end r (face_cell root (suc l) (2 * p + side)) ≤ℤ high_end r (face_cell root l p))
 inner r root l p side h above small =
     let few = face_level root l p (omega (arith, above)) in
     let less = face_level root (suc l) (2 * p + side) (omega (arith, above)) in
@@ -142,4 +170,11 @@ boxes_nest root l p side one three above small =
 pub grid_has_face_cells : GridHasFaceCells
 grid_has_face_cells c cell =
     let root = cell_root faces c cell in
-    record { first_root = root.0; last_root = root.1; deepest = cell_level faces c cell; first = index_small faces c cell 0; second = index_small faces c cell 1 }
+    record {
+      first_root = root.0;
+      last_root = root.1;
+      deepest = cell_level faces c cell;
+      first = index_small faces c
+          cell 0;
+      second = index_small faces c cell 1;
+    }

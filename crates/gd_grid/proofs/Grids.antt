@@ -1,5 +1,6 @@
 -- Coordinates that are halved in turn: how often each is, and the grid that they make.
-use Rattle.std.proofs.Common.{arith, ◌≡◌, ◌≢◌, refl, sym, ap, subst, ◌∙◌, ℕ, zero, suc, ◌+◌, ◌-◌, ◌*◌, ◌/◌, ◌%◌, ◌^◌, ◌≤◌, ◌<◌, cond, ◌==◌, List, [], ◌∷◌, length, get_or, ◌⊎◌, inl, inr}
+use Rattle.std.proofs.Common.{arith, ◌≡◌, ◌≢◌, refl, sym, ap, subst, ◌∙◌, ℕ, zero, suc, ◌+◌, ◌-◌, ◌*◌, ◌/◌, ◌%◌, ◌^◌}
+use Rattle.std.proofs.Common.{◌≤◌, ◌<◌, cond, ◌==◌, List, [], ◌∷◌, length, get_or, ◌⊎◌, inl, inr}
 use Rattle.std.proofs.lemmas.Bool.{cases_lt}
 use Rattle.std.proofs.lemmas.Bool.Decides.{nat_tests}
 use Rattle.std.proofs.lemmas.Nat.{div-add-mod', div-mul-add, mod-mul-add}
@@ -32,10 +33,19 @@ next d l some =
     let small : r < d = mod-lt l some in
     elim (cases_lt (r + 1) d) as (λ _. Next d l ⊎ Full d l) [
       | inl h ↦ (let s : suc l ≡ q * d + (r + 1) = omega (arith, e) in
-          inl (record { full = ap (λ m. m / d) s ∙ div-mul-add q d (r + 1) h; steps = ap (λ m. m % d) s ∙ mod-mul-add q d (r + 1) h }))
+          inl (record {
+            full = ap (λ m. m / d) s ∙ div-mul-add q d (r + 1) h;
+            steps = ap (λ m. m % d) s
+                ∙ mod-mul-add q d (r + 1) h;
+          }))
       | inr h ↦ (let t : r + 1 ≡ d = omega (arith, small) in
           let s : suc l ≡ (q + 1) * d + 0 = omega (arith, e, t) in
-          inr (record { full = ap (λ m. m / d) s ∙ div-mul-add (q + 1) d 0 some; steps = ap (λ m. m % d) s ∙ mod-mul-add (q + 1) d 0 some; last = t }))
+          inr (record {
+            full = ap (λ m. m / d) s ∙ div-mul-add (q + 1) d 0 some;
+            steps = ap (λ m. m % d) s
+                ∙ mod-mul-add (q + 1) d 0 some;
+            last = t;
+          }))
     ]
 
 one_more : (q r n : ℕ) → (cond (r == n) (at_turn q r n + 1) (at_turn q r n)) ≡ at_turn q (r + 1) n
@@ -56,11 +66,14 @@ turns_are g d n zero same h =
 turns_are g d n (suc l) same h =
     let some : 0 < d = omega arith in
     let before : halvings g n l ≡ turns d n l = turns_are g d n l same h in
-    let step : halvings g n (suc l) ≡ cond (l % d == n) (turns d n l + 1) (turns d n l) = ap (λ s. cond (s == n) (halvings g n l + 1) (halvings g n l)) (same l) ∙ ap (λ m. cond (l % d == n) (m + 1) m) before in
+    let step : halvings g n (suc l) ≡ cond (l % d == n) (turns d n l + 1) (turns d n l) = ap
+    (λ s. cond (s == n) (halvings g n l + 1) (halvings g n l)) (same l)
+    ∙ ap (λ m. cond (l % d == n) (m + 1) m) before in
     let more : halvings g n (suc l) ≡ at_turn (l / d) (l % d + 1) n = step ∙ one_more (l / d) (l % d) n in
     elim (next d l some) as (λ _. halvings g n (suc l) ≡ turns d n (suc l)) [
       | inl e ↦ more ∙ sym (ap (λ m. at_turn m (suc l % d) n) e.full ∙ ap (λ m. at_turn (l / d) m n) e.steps)
-      | inr e ↦ more ∙ ap (λ m. at_turn (l / d) m n) e.last ∙ at_end (l / d) d n h ∙ sym (ap (λ m. at_turn m (suc l % d) n) e.full ∙ ap (λ m. at_turn (l / d + 1) m n) e.steps)
+      | inr e ↦ more ∙ ap (λ m. at_turn (l / d) m n) e.last ∙ at_end (l / d) d n h
+          ∙ sym (ap (λ m. at_turn m (suc l % d) n) e.full ∙ ap (λ m. at_turn (l / d + 1) m n) e.steps)
     ]
 
 pub turns_are_halvings : TurnsAreHalvings
@@ -91,16 +104,26 @@ few_turns (k ∷ ks) = omega (arith, min-le_right (k.bits - 1) (full_turns ks), 
 turns_leave : (ks : List Coordinate) (n : ℕ) → n < length ks → full_turns ks ≤ (coordinate_at ks n).bits - 1
 turns_leave [] n h = absurd (omega arith)
 turns_leave (k ∷ ks) zero h = min-le_left (k.bits - 1) (full_turns ks)
-turns_leave (k ∷ ks) (suc n) h = omega (arith, min-le_right (k.bits - 1) (full_turns ks), turns_leave ks n (omega arith))
+turns_leave (k ∷ ks) (suc n) h = omega (
+  arith,
+  min-le_right (k.bits - 1)
+      (full_turns ks),
+  turns_leave ks n (omega arith),
+)
 
-finest_is : (roots : ℕ) (ks : List Coordinate) (n : ℕ) → n < length ks → halvings (grid_of roots ks) n (length ks * full_turns ks) ≡ full_turns ks
-finest_is roots ks n h = turns_are_halvings roots ks n (length ks * full_turns ks) h ∙ turns_at_end (length ks) n (full_turns ks) h
+finest_is : (roots : ℕ) (ks : List Coordinate) (n : ℕ) → n < length ks
+    → halvings (grid_of roots ks) n (length ks * full_turns ks) ≡ full_turns ks
+finest_is roots ks n h = turns_are_halvings roots ks n (length ks * full_turns ks) h
+    ∙ turns_at_end (length ks) n (full_turns ks) h
 
-few_at : (roots : ℕ) (ks : List Coordinate) (n : ℕ) → 1 ≤ length ks → halvings (grid_of roots ks) n (length ks * full_turns ks) ≤ 60
-few_at roots ks n some = elim (cases_lt n (length ks)) as (λ _. halvings (grid_of roots ks) n (length ks * full_turns ks) ≤ 60) [
-  | inl below ↦ rw (finest_is roots ks n below) (few_turns ks)
-  | inr above ↦ rw (past_all (grid_of roots ks) (length ks) n (length ks * full_turns ks) (λ m. refl) (omega arith) above) (omega arith)
-]
+few_at : (roots : ℕ) (ks : List Coordinate) (n : ℕ) → 1 ≤ length ks
+    → halvings (grid_of roots ks) n (length ks * full_turns ks) ≤ 60
+few_at roots ks n some = elim (cases_lt n (length ks)) as
+    (λ _. halvings (grid_of roots ks) n (length ks * full_turns ks) ≤ 60) [
+      | inl below ↦ rw (finest_is roots ks n below) (few_turns ks)
+      | inr above ↦ rw (past_all (grid_of roots ks) (length ks) n (length ks * full_turns ks)
+          (λ m. refl) (omega arith) above) (omega arith)
+    ]
 
 few_levels : (d m : ℕ) → d ≤ 12 → m ≤ 60 → d * m ≤ 1000
 few_levels d m h k =
@@ -123,7 +146,12 @@ coordinates_make_grid roots ks one four are = (
     dims = refl;
     steps = λ l h. mod-lt l (omega (arith, are.some));
     coordinates = are.each;
-    wide = λ n h. (let some = (are.each n h).some in let e = finest_is roots ks n h in omega (arith, e, turns_leave ks n h));
+    wide = λ n h. (let some = (are.each n h).some in let e = finest_is roots ks n h in omega (
+      arith,
+      e,
+      turns_leave ks
+          n h,
+    ));
   },
 )
 
@@ -133,7 +161,8 @@ cells_have_boxes roots ks c are cell n h =
     let l : c.level ≡ cell.level = ap (λ (d : Cell). d.level) cell.same ∙ level_at g cell.root cell.level cell.path in
     let t : halvings g n c.level ≡ turns (length ks) n c.level = turns_are_halvings roots ks n c.level h in
     let deep : c.level ≤ length ks * full_turns ks = omega (arith, cell.deepest) in
-    let more : halvings g n c.level ≤ halvings g n (length ks * full_turns ks) = halvings_grow g n c.level (length ks * full_turns ks) deep in
+    let more : halvings g n c.level ≤ halvings g n (length ks * full_turns ks) = halvings_grow g n c.level (length ks *
+    full_turns ks) deep in
     let end = finest_is roots ks n h in
     let some = (are.each n h).some in
     let small : get_or c.index n 0 < 2 ^ halvings g n c.level = index_small g c cell n in

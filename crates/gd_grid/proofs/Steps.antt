@@ -1,5 +1,6 @@
 -- One step of a grid: the index of a coordinate, and how often it was halved.
-use Rattle.std.proofs.Common.{arith, ◌≡◌, ◌≢◌, refl, ap, ◌∙◌, ℕ, zero, suc, ◌+◌, ◌*◌, ◌/◌, ◌%◌, ◌≤◌, ◌<◌, ◌==◌, if◌then◌else◌, true, false, inl, inr}
+use Rattle.std.proofs.Common.{arith, ◌≡◌, ◌≢◌, refl, ap, ◌∙◌, ℕ, zero, suc, ◌+◌, ◌*◌, ◌/◌, ◌%◌, ◌≤◌, ◌<◌, ◌==◌}
+use Rattle.std.proofs.Common.{if◌then◌else◌, true, false, inl, inr}
 use Rattle.std.proofs.lemmas.Bool.{cases_lt}
 use Rattle.std.proofs.lemmas.Bool.Decides.{nat_tests}
 use Rattle.gd_cells.proofs.Cells.{level_at}
@@ -7,13 +8,15 @@ use Rattle.gd_cells.specs.Grid.{Grid, IsCell, cell_of, halvings, index_of}
 use Rattle.gd_cells.specs.declared.cell.Cell.{Cell}
 
 -- ---- the index of a coordinate on a path
-pub halved_step : (g : Grid) (l p side n : ℕ) → side < 2 → g.steps l ≡ n → index_of g n (suc l) (2 * p + side) ≡ 2 * index_of g n l p + side
+pub halved_step : (g : Grid) (l p side n : ℕ) → side < 2 → g.steps l ≡ n
+    → index_of g n (suc l) (2 * p + side) ≡ 2 * index_of g n l p + side
 halved_step g l p side n small e =
     let d : (2 * p + side) / 2 ≡ p = omega arith in
     let m : (2 * p + side) % 2 ≡ side = omega arith in
     rw (e, d, m) (grind (arith, nat_tests))
 
-pub other_step : (g : Grid) (l p side n : ℕ) → side < 2 → g.steps l ≢ n → index_of g n (suc l) (2 * p + side) ≡ index_of g n l p
+pub other_step : (g : Grid) (l p side n : ℕ) → side < 2 → g.steps l ≢ n
+    → index_of g n (suc l) (2 * p + side) ≡ index_of g n l p
 other_step g l p side n small ne =
     let d : (2 * p + side) / 2 ≡ p = omega arith in
     rw d (grind (arith, nat_tests))
@@ -26,7 +29,12 @@ pub not_halved : (g : Grid) (l n : ℕ) → g.steps l ≢ n → halvings g n (su
 not_halved g l n ne = grind (arith, nat_tests)
 
 one_more : (g : Grid) (n l : ℕ) → halvings g n l ≤ halvings g n (suc l)
-one_more g n l = elim (g.steps l == n) as (λ v. halvings g n l ≤ (if v then halvings g n l + 1 else halvings g n l)) [ true ↦ omega arith | false ↦ omega arith ]
+one_more g n l = elim (g.steps l == n) as
+    (λ v. halvings g n l ≤ (if v then halvings g n l + 1 else halvings g n l)) [
+      | true ↦ omega arith
+      | false ↦ omega
+          arith
+    ]
 
 pub halvings_grow : (g : Grid) (n l m : ℕ) → l ≤ m → halvings g n l ≤ halvings g n m
 halvings_grow g n l zero h = let e : l ≡ 0 = omega arith in rw e (omega arith)

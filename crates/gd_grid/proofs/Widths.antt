@@ -1,5 +1,6 @@
 -- The boxes of one coordinate: their widths, ends and middles.
-use Rattle.std.proofs.Common.{arith, ◌≡◌, sym, ap, ◌∙◌, ℕ, suc, ◌+◌, ◌-◌, ◌*◌, ◌/◌, ◌^◌, ◌≤◌, ◌<◌, ℤ, pos, ◌+ℤ◌, ◌*ℤ◌, ◌≤ℤ◌, unsigned_abs, pow-suc}
+use Rattle.std.proofs.Common.{arith, ◌≡◌, sym, ap, ◌∙◌, ℕ, suc, ◌+◌, ◌-◌, ◌*◌, ◌/◌, ◌^◌, ◌≤◌, ◌<◌, ℤ, pos, ◌+ℤ◌, ◌*ℤ◌}
+use Rattle.std.proofs.Common.{◌≤ℤ◌, unsigned_abs, pow-suc}
 use Rattle.std.proofs.lemmas.Int.{ints}
 use Rattle.std.proofs.lemmas.Nat.{pow-add}
 use Rattle.std.proofs.Math.Nat.{mul-le-mul_right, pow-le-pow_right}
@@ -29,20 +30,32 @@ few_bits b h = pow-le-pow_right {n = 2} (omega arith) h
 
 -- ---- the range of one box
 in_range : (low : ℤ) (i w h b : ℕ) → w ≡ 2 * h → (i * w) + w ≤ b
-    → (low ≤ℤ (low +ℤ pos (i * w))) × ((low +ℤ pos (i * w) +ℤ pos w) ≤ℤ (low +ℤ pos b)) × ((low +ℤ pos (i * w)) ≤ℤ (low +ℤ pos (i * w) +ℤ pos h)) × ((low +ℤ pos (i * w) +ℤ pos h) ≤ℤ (low +ℤ pos (i * w) +ℤ pos w))
+    → (low ≤ℤ (low +ℤ pos (i * w))) × ((low +ℤ pos (i * w) +ℤ pos w) ≤ℤ (low +ℤ pos b))
+    × ((low +ℤ pos (i * w)) ≤ℤ (low +ℤ pos (i * w) +ℤ pos h))
+    × ((low +ℤ pos (i * w) +ℤ pos h) ≤ℤ (low +ℤ pos (i * w) +ℤ pos w))
     × (pos 2 *ℤ (low +ℤ pos (i * w) +ℤ pos h) ≡ (low +ℤ pos (i * w)) +ℤ (low +ℤ pos (i * w) +ℤ pos w))
-in_range low i w h b e k = (omega (arith, ints), omega (arith, ints), omega (arith, ints), omega (arith, ints), omega (arith, ints))
+in_range low i w h b e k = (
+  omega (arith, ints),
+  omega (arith, ints),
+  omega (arith, ints),
+  omega (arith, ints),
+  omega
+      (arith, ints),
+)
 
 halved : (w v : ℕ) → w ≡ 2 * v → w ≡ 2 * (w / 2)
 halved w v e = omega (arith, e)
 
-pub box_in : (k : Coordinate) (j i : ℕ) → j < k.bits → i < 2 ^ j → IsBoxIn k (low_after k j i) (high_after k j i) (middle_after k j i)
+pub box_in : (k : Coordinate) (j i : ℕ) → j < k.bits → i < 2 ^ j
+    → IsBoxIn k (low_after k j i) (high_after k j i) (middle_after k j i)
 box_in k j i few h =
-    let r = in_range k.low i (width_after k j) (width_after k j / 2) (2 ^ k.bits) (halved (width_after k j) (width_after k (suc j)) (half_width k j few)) (in_width i j k.bits h (omega arith)) in
+    let r = in_range k.low i (width_after k j) (width_after k j / 2) (2 ^ k.bits) (halved (width_after k j)
+    (width_after k (suc j)) (half_width k j few)) (in_width i j k.bits h (omega arith)) in
     record { above = r.0; below = r.1; low = r.2; high = r.3; whole = r.4 }
 
 -- no end is large
-pub in_size : (low x : ℤ) (b : ℕ) → unsigned_abs low ≤ 2 ^ 45 → b ≤ 2 ^ 45 → low ≤ℤ x → x ≤ℤ (low +ℤ pos b) → unsigned_abs x ≤ 2 ^ 46
+pub in_size : (low x : ℤ) (b : ℕ) → unsigned_abs low ≤ 2 ^ 45 → b ≤ 2 ^ 45 → low ≤ℤ x → x ≤ℤ (low +ℤ pos b)
+    → unsigned_abs x ≤ 2 ^ 46
 in_size low x b h k f g = omega (arith, ints)
 
 -- ---- the boxes of the two halves

@@ -1,5 +1,6 @@
 -- A witness that is in range stands for a placement that is.
-use Rattle.std.proofs.Common.{arith, ◌≡◌, refl, subst, ℕ, suc, ◌+◌, ◌-◌, ◌*◌, ◌^◌, ◌≤◌, ◌<◌, ℤ, pos, ◌-ℤ◌, ◌*ℤ◌, ◌≤ℤ◌, unsigned_abs, inl, inr}
+use Rattle.std.proofs.Common.{arith, ◌≡◌, refl, subst, ℕ, suc, ◌+◌, ◌-◌, ◌*◌, ◌^◌, ◌≤◌, ◌<◌, ℤ, pos, ◌-ℤ◌, ◌*ℤ◌, ◌≤ℤ◌}
+use Rattle.std.proofs.Common.{unsigned_abs, inl, inr}
 use Rattle.std.proofs.lemmas.Bool.{cases_lt}
 use Rattle.std.proofs.lemmas.Int.{ints}
 use Rattle.std.proofs.lemmas.Nat.{pow-add}
@@ -19,7 +20,8 @@ use Rattle.gd_turn.proofs.Coordinates.{later_is, length_of}
 use Rattle.gd_turn.proofs.Covers.{powers}
 use Rattle.gd_turn.proofs.Holds.{face_small}
 use Rattle.gd_turn.specs.Places.{WitnessesArePlacements, vector_at}
-use Rattle.gd_turn.specs.Ranges.{AreRanges, IsTurnInRange, ORIGIN, coordinates_of, face_of, length_about, ratio, roots_of, turn_of}
+use Rattle.gd_turn.specs.Ranges.{AreRanges, IsTurnInRange, ORIGIN, coordinates_of, face_of, length_about, ratio}
+use Rattle.gd_turn.specs.Ranges.{roots_of, turn_of}
 use Rattle.gd_turn.specs.declared.ranges.Ranges.{Ranges}
 use Rattle.gd_turn.specs.declared.ranges.TurnRange.{TurnRange}
 use Rattle.gd_turn.specs.declared.ranges.TurnRange.TheVariants.{All, Within}
@@ -47,21 +49,33 @@ in_turn k x few h =
     let e : 2 ^ 30 ≡ 2 ^ (30 - k) * 2 ^ k = powers k few in
     omega (arith, p, e)
 
-turn_in : (turn : TurnRange) (root : ℕ) (q : Ratios) → turn_of turn ≤ 20 → IsIn (ratio turn) q.first → IsIn (ratio turn) q.second → IsIn (ratio turn) q.third → IsTurnInRange turn (rotation_at (face_of turn root) q)
+turn_in : (turn : TurnRange) (root : ℕ) (q : Ratios) → turn_of turn ≤ 20 → IsIn (ratio turn) q.first
+    → IsIn (ratio turn) q.second → IsIn (ratio turn) q.third → IsTurnInRange turn (rotation_at (face_of turn root) q)
 turn_in All root q few f g h = tt
-turn_in (Within k) root q few f g h = record { positive = omega (arith, ints); q1 = in_turn k q.first few f; q2 = in_turn k q.second few g; q3 = in_turn k q.third few h }
+turn_in (Within k) root q few f g h = record {
+  positive = omega (arith, ints);
+  q1 = in_turn k q.first few f;
+  q2 =
+      in_turn k q.second few g;
+  q3 = in_turn k q.third few h;
+}
 
 -- ---- lengths
-length_near : (shift : ℕ) (c x : ℤ) → IsIn (length_about shift c) x → unsigned_abs (x -ℤ pos (2 ^ 16) *ℤ c) ≤ 2 ^ 16 * 2 ^ shift
+length_near : (shift : ℕ) (c x : ℤ) → IsIn (length_about shift c) x
+    → unsigned_abs (x -ℤ pos (2 ^ 16) *ℤ c) ≤ 2 ^ 16 * 2 ^ shift
 length_near shift c x h =
     let e : 2 ^ (shift + 16) ≡ 2 ^ shift * 2 ^ 16 = pow-add 2 shift 16 in
-    let near : unsigned_abs (x -ℤ pos (2 ^ 16) *ℤ c) ≤ 2 ^ (shift + 16) = subst (λ z. unsigned_abs (x -ℤ z) ≤ 2 ^ (shift + 16)) (mul_comm_ℤ c (pos (2 ^ 16))) (within_about (c *ℤ pos (2 ^ 16)) (shift + 16) x h) in
+    let near : unsigned_abs (x -ℤ pos (2 ^ 16) *ℤ c) ≤ 2 ^ (shift + 16) = subst
+    (λ z. unsigned_abs (x -ℤ z) ≤ 2 ^ (shift + 16)) (mul_comm_ℤ c (pos (2 ^ 16)))
+    (within_about (c *ℤ pos (2 ^ 16)) (shift + 16) x h) in
     omega (arith, near, e)
 
-length_small : (shift : ℕ) (c x : ℤ) → shift ≤ LARGE_SHIFT → unsigned_abs c ≤ LARGE_COORDINATE → IsIn (length_about shift c) x → unsigned_abs x ≤ 2 ^ 45
+length_small : (shift : ℕ) (c x : ℤ) → shift ≤ LARGE_SHIFT → unsigned_abs c ≤ LARGE_COORDINATE
+    → IsIn (length_about shift c) x → unsigned_abs x ≤ 2 ^ 45
 length_small shift c x h k i =
     let few : shift + 16 ≤ 44 = omega (arith, h) in
-    sized (c *ℤ pos (2 ^ 16)) (2 ^ (shift + 16)) (omega (arith, ints)) (few_power (shift + 16) few) (within_about (c *ℤ pos (2 ^ 16)) (shift + 16) x i)
+    sized (c *ℤ pos (2 ^ 16)) (2 ^ (shift + 16)) (omega (arith, ints)) (few_power (shift + 16) few)
+    (within_about (c *ℤ pos (2 ^ 16)) (shift + 16) x i)
   where
     sized : (z : ℤ) (w : ℕ) → unsigned_abs z ≤ 2 ^ 44 → w ≤ 2 ^ 44 → unsigned_abs (x -ℤ z) ≤ w → unsigned_abs x ≤ 2 ^ 45
     sized z w f g h = omega (arith, ints)
@@ -70,25 +84,34 @@ length_small shift c x h k i =
 abbrev Place : Ranges → Witness → Type 0
 Place r w = IsPlaceInRange (roots_of r.turn) (coordinates_of r) w
 
-offset_in : (r : Ranges) (w : Witness) (m : ℕ) → Place r w → m < 3 * r.offsets → IsIn (length_about r.shift (pos 0)) (number_at (suc (suc (suc (suc (suc (suc m)))))) w)
+offset_in : (r : Ranges) (w : Witness) (m : ℕ) → Place r w → m < 3 * r.offsets
+    → IsIn (length_about r.shift (pos 0)) (number_at (suc (suc (suc (suc (suc (suc m)))))) w)
 offset_in r w m place h =
-    subst (λ (k : Coordinate). IsIn k (number_at (suc (suc (suc (suc (suc (suc m)))))) w)) (later_is r m h) (place.numbers (suc (suc (suc (suc (suc (suc m)))))) (omega (arith, h, length_of r)))
+    subst (λ (k : Coordinate). IsIn k (number_at (suc (suc (suc (suc (suc (suc m)))))) w)) (later_is r m h)
+    (place.numbers (suc (suc (suc (suc (suc (suc m)))))) (omega (arith, h, length_of r)))
 
-offset_near : (r : Ranges) (w : Witness) (m : ℕ) → Place r w → m < 3 * r.offsets → unsigned_abs (number_at (suc (suc (suc (suc (suc (suc m)))))) w -ℤ pos (2 ^ 16) *ℤ pos 0) ≤ 2 ^ 16 * 2 ^ r.shift
-offset_near r w m place h = length_near r.shift (pos 0) (number_at (suc (suc (suc (suc (suc (suc m)))))) w) (offset_in r w m place h)
+offset_near : (r : Ranges) (w : Witness) (m : ℕ) → Place r w → m < 3 * r.offsets
+    → unsigned_abs (number_at (suc (suc (suc (suc (suc (suc m)))))) w -ℤ pos (2 ^ 16) *ℤ pos 0) ≤ 2 ^ 16 * 2 ^ r.shift
+offset_near r w m place h = length_near r.shift (pos 0) (number_at (suc (suc (suc (suc (suc (suc m)))))) w)
+    (offset_in r w m place h)
 
-offset_small : (r : Ranges) (w : Witness) (m : ℕ) → AreRanges r → Place r w → unsigned_abs (number_at (suc (suc (suc (suc (suc (suc m)))))) w) ≤ 2 ^ 45
-offset_small r w m are place = elim (cases_lt m (3 * r.offsets)) as (λ _. unsigned_abs (number_at (suc (suc (suc (suc (suc (suc m)))))) w) ≤ 2 ^ 45) [
-  | inl some ↦ length_small r.shift (pos 0) (number_at (suc (suc (suc (suc (suc (suc m)))))) w) are.shift (omega arith) (offset_in r w m place some)
-  | inr none ↦ small_zero (number_at (suc (suc (suc (suc (suc (suc m)))))) w) (place.rest (suc (suc (suc (suc (suc (suc m)))))) (omega (arith, none, length_of r)))
-]
+offset_small : (r : Ranges) (w : Witness) (m : ℕ) → AreRanges r → Place r w
+    → unsigned_abs (number_at (suc (suc (suc (suc (suc (suc m)))))) w) ≤ 2 ^ 45
+offset_small r w m are place = elim (cases_lt m (3 * r.offsets)) as
+    (λ _. unsigned_abs (number_at (suc (suc (suc (suc (suc (suc m)))))) w) ≤ 2 ^ 45) [
+      | inl some ↦ length_small r.shift (pos 0)
+          (number_at (suc (suc (suc (suc (suc (suc m)))))) w) are.shift (omega arith) (offset_in r w m place some)
+      | inr none ↦ small_zero (number_at (suc (suc (suc (suc (suc (suc m)))))) w)
+          (place.rest (suc (suc (suc (suc (suc (suc m)))))) (omega (arith, none, length_of r)))
+    ]
   where
     small_zero : (x : ℤ) → x ≡ pos 0 → unsigned_abs x ≤ 2 ^ 45
     small_zero x e = rw e (omega arith)
 
 none_at : (r : Ranges) (w : Witness) (n : ℕ) → Place r w → 3 * r.offsets + 6 ≤ n → vector_at n w ≡ ORIGIN
 none_at r w n place h =
-    zeros (number_at n w) (number_at (n + 1) w) (number_at (n + 2) w) (place.rest n (omega (arith, h, length_of r))) (place.rest (n + 1) (omega (arith, h, length_of r))) (place.rest (n + 2) (omega (arith, h, length_of r)))
+    zeros (number_at n w) (number_at (n + 1) w) (number_at (n + 2) w) (place.rest n (omega (arith, h, length_of r)))
+    (place.rest (n + 1) (omega (arith, h, length_of r))) (place.rest (n + 2) (omega (arith, h, length_of r)))
   where
     zeros : (x y z : ℤ) → x ≡ pos 0 → y ≡ pos 0 → z ≡ pos 0 → ◌≡◌ {A = V3} (record { x = x; y = y; z = z }) ORIGIN
     zeros x y z e f g = rw (e, f, g) refl
@@ -112,10 +135,26 @@ witnesses_are_placements r w are range =
         third = at_most_one r.turn (number_at 2 w) r2;
       };
       range = record {
-        turn = turn_in r.turn w.root (record { first = number_at 0 w; second = number_at 1 w; third = number_at 2 w }) are.turn r0 r1 r2;
-        shift = record { x = length_near r.shift r.centre.x (number_at 3 w) x; y = length_near r.shift r.centre.y (number_at 4 w) y; z = length_near r.shift r.centre.z (number_at 5 w) z };
-        first = λ some. record { x = offset_near r w 0 place (omega (arith, some)); y = offset_near r w 1 place (omega (arith, some)); z = offset_near r w 2 place (omega (arith, some)) };
-        second = λ some. record { x = offset_near r w 3 place (omega (arith, some)); y = offset_near r w 4 place (omega (arith, some)); z = offset_near r w 5 place (omega (arith, some)) };
+        turn = turn_in r.turn w.root (record { first = number_at 0 w; second = number_at 1 w; third = number_at 2 w })
+            are.turn r0 r1 r2;
+        shift = record {
+          x = length_near r.shift r.centre.x (number_at 3 w) x;
+          y = length_near r.shift r.centre.y
+              (number_at 4 w) y;
+          z = length_near r.shift r.centre.z (number_at 5 w) z;
+        };
+        first = λ some. record {
+          x = offset_near r w 0 place (omega (arith, some));
+          y = offset_near r w 1 place (omega
+              (arith, some));
+          z = offset_near r w 2 place (omega (arith, some));
+        };
+        second = λ some. record {
+          x = offset_near r w 3 place (omega (arith, some));
+          y = offset_near r w 4 place (omega
+              (arith, some));
+          z = offset_near r w 5 place (omega (arith, some));
+        };
         no_first = λ none. none_at r w 6 place (omega (arith, none));
         no_second = λ none. none_at r w 9 place (omega (arith, none));
       };
@@ -124,6 +163,16 @@ witnesses_are_placements r w are range =
         y = length_small r.shift r.centre.y (number_at 4 w) are.shift are.centre.y y;
         z = length_small r.shift r.centre.z (number_at 5 w) are.shift are.centre.z z;
       };
-      first = record { x = offset_small r w 0 are place; y = offset_small r w 1 are place; z = offset_small r w 2 are place };
-      second = record { x = offset_small r w 3 are place; y = offset_small r w 4 are place; z = offset_small r w 5 are place };
+      first = record {
+        x = offset_small r w 0 are place;
+        y = offset_small r w 1 are place;
+        z = offset_small r w 2 are
+            place;
+      };
+      second = record {
+        x = offset_small r w 3 are place;
+        y = offset_small r w 4 are place;
+        z = offset_small r w 5 are
+            place;
+      };
     }

@@ -19,10 +19,12 @@ summed a t r e =
     left : (a b c d e f : ℤ) → e ≡ a +ℤ c → f ≡ b +ℤ d → (f -ℤ e) -ℤ (d -ℤ c) -ℤ pos 2 ≡ (b -ℤ a) -ℤ pos 2
     left a b c d e f g h = omega (arith, ints, g, h)
 
-as_wide : (a t r : Iv) (m : ℤ) → ends r ≡ sum (ends a) (ends t) → ((width_of a -ℤ pos 2) *ℤ pos (2 ^ 14)) ≤ℤ m → ((width_of r -ℤ width_of t -ℤ pos 2) *ℤ pos (2 ^ 14)) ≤ℤ m
+as_wide : (a t r : Iv) (m : ℤ) → ends r ≡ sum (ends a) (ends t) → ((width_of a -ℤ pos 2) *ℤ pos (2 ^ 14)) ≤ℤ m
+    → ((width_of r -ℤ width_of t -ℤ pos 2) *ℤ pos (2 ^ 14)) ≤ℤ m
 as_wide a t r m e h = subst (λ z. (z *ℤ pos (2 ^ 14)) ≤ℤ m) (sym (summed a t r e)) h
 
-pub image_width : (w : ℕ) (v : V3) (a t r : VecBox) → TurnedWidth (12 * w + 2) v a → vector_ends r ≡ moved_formula (vector_ends a) (vector_ends t) → ImageWidth w v t r
+pub image_width : (w : ℕ) (v : V3) (a t r : VecBox) → TurnedWidth (12 * w + 2) v a
+    → vector_ends r ≡ moved_formula (vector_ends a) (vector_ends t) → ImageWidth w v t r
 image_width w v a t r h e = record {
   x = as_wide a.x t.x r.x (pos (12 * w + 2) *ℤ norm_sum_of v) (ap (λ z. z.x) e) h.x;
   y = as_wide a.y t.y r.y (pos (12 * w + 2) *ℤ norm_sum_of v) (ap (λ z. z.y) e) h.y;

@@ -10,7 +10,8 @@ loop-n-preserved c =
     let v : ℤ = to_z w64 (of_z w64 c.coordinate_middle.result) in
     let inside : n < length c.args.ks.now = c.loop-n-test.true in
     let room : n < length c.loop-n.at = omega (arith, so.room, inside, c.requires.coordinates.few) in
-    let same : v ≡ middle_in c.args.ks.now n c.args.c.now = kept c.coordinate_middle.result c.coordinate_middle.ensures.size ∙ c.coordinate_middle.ensures.value in
+    let same : v ≡ middle_in c.args.ks.now n c.args.c.now = kept c.coordinate_middle.result
+    c.coordinate_middle.ensures.size ∙ c.coordinate_middle.ensures.value in
     record {
       done = one_more n c.loop-n.at c.args.ks.now c.args.c.now v room inside same so.done;
       rest = rest_more n 12 c.loop-n.at v room (omega (arith, inside, c.requires.coordinates.few)) so.rest;
