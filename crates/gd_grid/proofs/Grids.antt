@@ -84,7 +84,7 @@ turns_at_end d n m h =
     let r : (d * m) % d ≡ 0 = ap (λ l. l % d) e ∙ mod-mul-add m d 0 some in
     ap (λ k. at_turn k ((d * m) % d) n) q ∙ ap (λ k. at_turn m k n) r ∙ grind (arith, nat_tests)
 
-few_turns : (ks : List Coordinate) → full_turns ks ≤ 60
+pub few_turns : (ks : List Coordinate) → full_turns ks ≤ 60
 few_turns [] = omega arith
 few_turns (k ∷ ks) = omega (arith, min-le_right (k.bits - 1) (full_turns ks), few_turns ks)
 
@@ -128,7 +128,7 @@ coordinates_make_grid roots ks one four are = (
 )
 
 pub cells_have_boxes : CellsHaveBoxes
-cells_have_boxes roots ks c n are cell h =
+cells_have_boxes roots ks c are cell n h =
     let g : Grid = grid_of roots ks in
     let l : c.level ≡ cell.level = ap (λ (d : Cell). d.level) cell.same ∙ level_at g cell.root cell.level cell.path in
     let t : halvings g n c.level ≡ turns (length ks) n c.level = turns_are_halvings roots ks n c.level h in

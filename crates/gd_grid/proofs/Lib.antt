@@ -3,6 +3,7 @@ pub mod Grids
 pub mod Halves
 pub mod InTurn
 mod KnownValues
+pub mod Middles
 pub mod Ranges
 pub mod Steps
 pub mod Widths

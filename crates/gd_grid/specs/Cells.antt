@@ -73,6 +73,11 @@ abbrev pub middles_from : Grid → Cell → ℕ → List Coordinate → List ℤ
 middles_from g c n [] = []
 middles_from g c n (k ∷ ks) = middle_after k (halvings g n c.level) (index_at n c) ∷ middles_from g c (n + 1) ks
 
+-- the same where coordinates are halved in turn
+abbrev pub middles_in : ℕ → Cell → ℕ → List Coordinate → List ℤ
+middles_in dims c n [] = []
+middles_in dims c n (k ∷ ks) = middle_after k (turns dims n c.level) (index_at n c) ∷ middles_in dims c (n + 1) ks
+
 abbrev pub centre_of : Grid → List Coordinate → Cell → Witness
 centre_of g ks c = witness_of c.root (middles_from g c 0 ks)
 

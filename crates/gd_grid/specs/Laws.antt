@@ -48,8 +48,11 @@ BoxesInTurn = (roots : ℕ) (ks : List Coordinate) (n : ℕ) (c : Cell) → n < 
     → (low_end (grid_of roots ks) ks n c ≡ low_in ks n c) × (high_end (grid_of roots ks) ks n c ≡ high_in ks n c) × (middle (grid_of roots ks) ks n c ≡ middle_in ks n c)
 
 -- each of them has a box in each cell
+abbrev pub HaveBoxes : List Coordinate → Cell → Type 0
+HaveBoxes ks c = (n : ℕ) → n < length ks → HasBox (coordinate_at ks n) n (length ks) c
+
 abbrev pub CellsHaveBoxes : Type 0
-CellsHaveBoxes = (roots : ℕ) (ks : List Coordinate) (c : Cell) (n : ℕ) → AreCoordinates ks → IsCell (grid_of roots ks) c → n < length ks → HasBox (coordinate_at ks n) n (length ks) c
+CellsHaveBoxes = (roots : ℕ) (ks : List Coordinate) (c : Cell) → AreCoordinates ks → IsCell (grid_of roots ks) c → HaveBoxes ks c
 
 -- a box lies in its coordinate's range, and its middle is a whole number of the scale: twice it is the sum of the ends
 pub record IsBoxIn (k : Coordinate) (lo hi mid : ℤ) : Type 0 where

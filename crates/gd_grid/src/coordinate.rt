@@ -30,12 +30,12 @@ pub fn about(centre: i64, bits: u32) -> Coordinate
     }
 }
 
-// How far it goes to each side.
+// How far it goes to each side, or in all.
 #[inline]
-fn reach(bits: u32) -> u64
-    requires { bits ≤ 44 }
+pub fn reach(bits: u32) -> u64
+    requires { bits ≤ 45 }
     ensures value { result ≡ 2 ^ bits }
-    ensures size { result ≤ 2 ^ 44 }
+    ensures size { result ≤ 2 ^ 45 }
 {
     power(bits)
 }

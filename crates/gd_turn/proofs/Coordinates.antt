@@ -1,5 +1,5 @@
 -- The coordinates of ranges: how many there are, which they are, and that they make a grid.
-use Rattle.std.proofs.Common.{arith, ◌≡◌, refl, sym, ap, subst, ◌∙◌, ℕ, zero, suc, ◌+◌, ◌-◌, ◌*◌, ◌^◌, ◌≤◌, ◌<◌, ℤ, pos, ◌*ℤ◌, unsigned_abs, length, get_or}
+use Rattle.std.proofs.Common.{arith, ◌≡◌, refl, sym, ap, subst, ◌∙◌, ℕ, zero, suc, ◌+◌, ◌-◌, ◌*◌, ◌^◌, ◌≤◌, ◌<◌, ℤ, pos, ◌*ℤ◌, unsigned_abs, length, get_or, take}
 use Rattle.std.proofs.lemmas.Int.{ints}
 use Rattle.gd_base.specs.Limits.{LARGE_COORDINATE, LARGE_SHIFT, TURN}
 use Rattle.gd_cells.specs.Grid.{Grid, IsCell, cell_of}
@@ -8,10 +8,10 @@ use Rattle.gd_grid.proofs.Ranges.{about_is}
 use Rattle.gd_grid.proofs.Grids.{cells_have_boxes, coordinates_make_grid}
 use Rattle.gd_grid.specs.Cells.{IsGridOf, coordinate_at, high_in, index_at, low_in}
 use Rattle.gd_grid.specs.Coordinates.{IsCoordinate, high_after, low_after}
-use Rattle.gd_grid.specs.Laws.{AreCoordinates}
+use Rattle.gd_grid.specs.Laws.{AreCoordinates, HaveBoxes}
 use Rattle.gd_grid.specs.Turns.{HasBox, turns}
 use Rattle.gd_grid.specs.declared.coordinate.Coordinate.{Coordinate}
-use Rattle.gd_turn.specs.Ranges.{AreRanges, cells_of, coordinates_of, length_about, offset_coordinates, ratio, roots_of, turn_of}
+use Rattle.gd_turn.specs.Ranges.{AreRanges, all_coordinates, cells_of, coordinates_of, length_about, offset_coordinates, ratio, roots_of, turn_of}
 use Rattle.gd_turn.specs.declared.ranges.Ranges.{Ranges}
 use Rattle.gd_turn.specs.declared.ranges.TurnRange.{TurnRange}
 use Rattle.gd_turn.specs.declared.ranges.TurnRange.TheVariants.{All, Within}
@@ -101,7 +101,7 @@ default_is r (suc (suc (suc (suc (suc (suc m)))))) some h = later_is r m (omega 
 
 -- each has a box in each cell
 pub has_box : (r : Ranges) (c : Cell) (n : ℕ) → AreRanges r → IsCell (cells_of r) c → n < 3 * r.offsets + 6 → HasBox (coordinate_at (coordinates_of r) n) n (3 * r.offsets + 6) c
-has_box r c n are cell h = subst (λ dims. HasBox (coordinate_at (coordinates_of r) n) n dims c) (length_of r) (cells_have_boxes (roots_of r.turn) (coordinates_of r) c n (are_coordinates r are) cell (omega (arith, h, length_of r)))
+has_box r c n are cell h = subst (λ dims. HasBox (coordinate_at (coordinates_of r) n) n dims c) (length_of r) (cells_have_boxes (roots_of r.turn) (coordinates_of r) c (are_coordinates r are) cell n (omega (arith, h, length_of r)))
 
 -- its ends, by the number of coordinates
 pub low_is : (r : Ranges) (c : Cell) (n : ℕ) (k : Coordinate) → k ≡ coordinate_at (coordinates_of r) n → low_after k (turns (3 * r.offsets + 6) n c.level) (index_at n c) ≡ low_in (coordinates_of r) n c
@@ -109,3 +109,19 @@ low_is r c n k e = ap (λ (m : Coordinate). low_after m (turns (3 * r.offsets + 
 
 pub high_is : (r : Ranges) (c : Cell) (n : ℕ) (k : Coordinate) → k ≡ coordinate_at (coordinates_of r) n → high_after k (turns (3 * r.offsets + 6) n c.level) (index_at n c) ≡ high_in (coordinates_of r) n c
 high_is r c n k e = ap (λ (m : Coordinate). high_after m (turns (3 * r.offsets + 6) n c.level) (index_at n c)) e ∙ ap (λ dims. high_after (coordinate_at (coordinates_of r) n) (turns dims n c.level) (index_at n c)) (sym (length_of r))
+
+-- ---- the coordinates are the first ones of those of two offsets
+first_of : (r : Ranges) (count : ℕ) → count ≤ 2 → take (3 * count + 6) (all_coordinates r) ≡ coordinates_of (record { turn = r.turn; shift = r.shift; centre = r.centre; offsets = count })
+first_of r zero h = refl
+first_of r (suc zero) h = refl
+first_of r (suc (suc zero)) h = refl
+first_of r (suc (suc (suc n))) h = absurd (omega arith)
+
+pub taken_is : (r : Ranges) (n : ℕ) → AreRanges r → n ≡ length (coordinates_of r) → take n (all_coordinates r) ≡ coordinates_of r
+taken_is r n are e = ap (λ m. take m (all_coordinates r)) (e ∙ length_of r) ∙ first_of r r.offsets are.offsets
+
+pub few_dims : (r : Ranges) → AreRanges r → length (coordinates_of r) ≤ 12
+few_dims r are = (are_coordinates r are).few
+
+pub have_boxes : (r : Ranges) (c : Cell) → AreRanges r → IsCell (cells_of r) c → HaveBoxes (coordinates_of r) c
+have_boxes r c are cell = cells_have_boxes (roots_of r.turn) (coordinates_of r) c (are_coordinates r are) cell

@@ -77,6 +77,10 @@ coordinates_of r =
     ∷ length_about r.shift r.centre.x ∷ length_about r.shift r.centre.y ∷ length_about r.shift r.centre.z
     ∷ offset_coordinates r.offsets (length_about r.shift (pos 0))
 
+-- the coordinates of two offsets, of which those of fewer are the first
+abbrev pub all_coordinates : Ranges → List Coordinate
+all_coordinates r = coordinates_of (record { turn = r.turn; shift = r.shift; centre = r.centre; offsets = 2 })
+
 -- where every rotation is in range each of the four components leads in one root
 abbrev pub roots_of : TurnRange → ℕ
 roots_of All = 4

@@ -170,7 +170,7 @@ fn coordinate(r: &Ranges, number: u32) -> Coordinate
 
 // The range of a ratio.
 #[inline]
-fn ratio(turn: TurnRange) -> Coordinate
+pub fn ratio(turn: TurnRange) -> Coordinate
     requires { turn_of turn ≤ TURN }
     ensures { result ≡ ratio turn }
 {
@@ -190,7 +190,7 @@ fn turn_of(turn: TurnRange) -> u32
 
 // The range of a shift about an entry of the centre, in units, or of an offset about 0.
 #[inline]
-fn length_about(shift: u32, centre: i64) -> Coordinate
+pub fn length_about(shift: u32, centre: i64) -> Coordinate
     requires shift { shift ≤ LARGE_SHIFT }
     requires centre { unsigned_abs centre ≤ LARGE_COORDINATE }
     ensures { result ≡ length_about shift centre }

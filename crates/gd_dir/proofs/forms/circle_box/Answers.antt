@@ -7,7 +7,7 @@ use Rattle.gd_grid.specs.Turns.{HasBox}
 use Rattle.gd_dir.proofs.forms.circle_box.Goals as goal
 
 pub coordinate_box-first-requires : goal.coordinate_box-first-requires
-coordinate_box-first-requires c = subst (λ k. HasBox k 0 2 c.args.c.now) (sym c.about-offset.ensures) (cells_have_boxes 1 (coordinates_of Circle c.args.shift) c.args.c.now 0 (are_circles c.args.shift c.requires.shift) c.requires.cell (omega arith))
+coordinate_box-first-requires c = subst (λ k. HasBox k 0 2 c.args.c.now) (sym c.about-offset.ensures) (cells_have_boxes 1 (coordinates_of Circle c.args.shift) c.args.c.now (are_circles c.args.shift c.requires.shift) c.requires.cell 0 (omega arith))
 
 pub coordinate_box-second-requires : goal.coordinate_box-second-requires
-coordinate_box-second-requires c = subst (λ k. HasBox k 1 2 c.args.c.now) (sym c.about-offset.ensures) (cells_have_boxes 1 (coordinates_of Circle c.args.shift) c.args.c.now 1 (are_circles c.args.shift c.requires.shift) c.requires.cell (omega arith))
+coordinate_box-second-requires c = subst (λ k. HasBox k 1 2 c.args.c.now) (sym c.about-offset.ensures) (cells_have_boxes 1 (coordinates_of Circle c.args.shift) c.args.c.now (are_circles c.args.shift c.requires.shift) c.requires.cell 1 (omega arith))

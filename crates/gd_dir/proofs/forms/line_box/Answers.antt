@@ -9,10 +9,10 @@ use Rattle.gd_grid.specs.Turns.{HasBox}
 use Rattle.gd_dir.proofs.forms.line_box.Goals as goal
 
 pub coordinate_box-third-requires : goal.coordinate_box-third-requires
-coordinate_box-third-requires c = subst (λ k. HasBox k 2 4 c.args.c.now) (sym c.about-offset.ensures) (cells_have_boxes 3 (coordinates_of Line c.args.shift) c.args.c.now 2 (are_lines c.args.shift c.requires.shift) c.requires.cell (omega arith))
+coordinate_box-third-requires c = subst (λ k. HasBox k 2 4 c.args.c.now) (sym c.about-offset.ensures) (cells_have_boxes 3 (coordinates_of Line c.args.shift) c.args.c.now (are_lines c.args.shift c.requires.shift) c.requires.cell 2 (omega arith))
 
 pub coordinate_box-fourth-requires : goal.coordinate_box-fourth-requires
-coordinate_box-fourth-requires c = subst (λ k. HasBox k 3 4 c.args.c.now) (sym c.about-offset.ensures) (cells_have_boxes 3 (coordinates_of Line c.args.shift) c.args.c.now 3 (are_lines c.args.shift c.requires.shift) c.requires.cell (omega arith))
+coordinate_box-fourth-requires c = subst (λ k. HasBox k 3 4 c.args.c.now) (sym c.about-offset.ensures) (cells_have_boxes 3 (coordinates_of Line c.args.shift) c.args.c.now (are_lines c.args.shift c.requires.shift) c.requires.cell 3 (omega arith))
 
 pub ratios_box-requires : goal.ratios_box-requires
 ratios_box-requires c =
@@ -20,8 +20,8 @@ ratios_box-requires c =
     record {
       first_root = root.0;
       last_root = root.1;
-      first = cells_have_boxes 3 (coordinates_of Line c.args.shift) c.args.c.now 0 (are_lines c.args.shift c.requires.shift) c.requires.cell (omega arith);
-      second = cells_have_boxes 3 (coordinates_of Line c.args.shift) c.args.c.now 1 (are_lines c.args.shift c.requires.shift) c.requires.cell (omega arith);
+      first = cells_have_boxes 3 (coordinates_of Line c.args.shift) c.args.c.now (are_lines c.args.shift c.requires.shift) c.requires.cell 0 (omega arith);
+      second = cells_have_boxes 3 (coordinates_of Line c.args.shift) c.args.c.now (are_lines c.args.shift c.requires.shift) c.requires.cell 1 (omega arith);
     }
 
 pub returns : goal.returns
