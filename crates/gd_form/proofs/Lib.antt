@@ -1,5 +1,15 @@
+pub mod AxisEvidence
+pub mod AxisHeld
+pub mod AxisSizes
+pub mod AxisSound
 pub mod Blocks
 pub mod Decisions
 mod KnownValues
+pub mod RootExtremes
+pub mod LineLoops
+pub mod Near
+pub mod Pairs
+pub mod Radius
+pub mod Roots
 pub mod Sizes
 pub mod Steps

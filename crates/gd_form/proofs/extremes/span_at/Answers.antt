@@ -43,3 +43,7 @@ along_axis-y-requires-clause-one c =
 pub along_axis-z-requires-clause-one : goal.along_axis-z-requires-clause-one
 along_axis-z-requires-clause-one c =
     λ leads. (kept-is c.args.b.now.lo.z (omega (arith, c.requires.directions.lo.z)) ∙ (c.requires.z leads).0, kept-is c.args.b.now.hi.z (omega (arith, c.requires.directions.hi.z)) ∙ (c.requires.z leads).1)
+
+pub along_axis-x-requires-clause-one : goal.along_axis-x-requires-clause-one
+along_axis-x-requires-clause-one c =
+    λ leads. (kept-is c.args.b.now.lo.x (omega (arith, c.requires.directions.lo.x)) ∙ (c.requires.x leads).0, kept-is c.args.b.now.hi.x (omega (arith, c.requires.directions.hi.x)) ∙ (c.requires.x leads).1)
