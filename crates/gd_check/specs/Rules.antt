@@ -1,10 +1,9 @@
--- The codes of the rules, and what the trees of the code are of.
+-- The rules of a right certificate by the codes that are printed, and the fault of a line that breaks one.
 use Rattle.std.specs.Prelude.{ℕ}
+use Rattle.gd_cert.specs.Reading.{fault}
+use Rattle.gd_cert.specs.declared.fault.CertFault.{CertFault}
 use Rattle.gd_check.specs.declared.rule.Rule.{Rule}
-use Rattle.gd_check.specs.Wrong.{Kind, OfOpen, OfReject}
 use Rattle.gd_check.specs.declared.rule.Rule.TheVariants as rule
-use Rattle.gd_check.specs.declared.tree.TreeOf.{TreeOf}
-use Rattle.gd_check.specs.declared.tree.TreeOf.TheVariants as tree_of
 
 -- the number that is printed for a broken rule
 abbrev pub code_of : Rule → ℕ
@@ -18,6 +17,6 @@ code_of rule.Groups = 55
 code_of rule.Open = 56
 code_of rule.FinestLevel = 57
 
-abbrev pub kind_of : TreeOf → Kind
-kind_of tree_of.Reject = OfReject
-kind_of (tree_of.Open level) = OfOpen level
+-- the fault of a line that breaks a rule
+abbrev pub broken : Rule → ℕ → CertFault
+broken r line = fault line (code_of r)

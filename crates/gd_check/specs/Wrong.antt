@@ -13,6 +13,10 @@ use Rattle.gd_cert.specs.Certificates.{Accept, Body, Certificate, Reject, Open}
 use Rattle.gd_cert.specs.Reading.{fault}
 use Rattle.gd_cert.specs.Text.{body_lines}
 use Rattle.gd_cert.specs.declared.fault.CertFault.{CertFault}
+use Rattle.gd_check.specs.Rules.{broken, code_of}
+use Rattle.gd_check.specs.declared.rule.Rule.TheVariants as rule
+use Rattle.gd_check.specs.declared.tree.TreeOf.{TreeOf}
+use Rattle.gd_check.specs.declared.tree.TreeOf.TheVariants as tree_of
 use Rattle.gd_cells.specs.Witnesses.{witness_of}
 
 -- a fault, or else the next
@@ -26,25 +30,29 @@ pub data Kind : Type 0 where
   OfReject : Kind
   OfOpen : ℕ → Kind
 
+abbrev pub kind_of : TreeOf → Kind
+kind_of tree_of.Reject = OfReject
+kind_of (tree_of.Open level) = OfOpen level
+
 -- a cell that may not be left or halved in an open group: something refutes it, or its centre holds
 abbrev pub is_decided : Questions → Cell → Bool
 is_decided q c = is_some (q.tests.first c) || q.tests.holds (q.tests.centre c)
 
--- a halved cell that the kind of the tree forbids: 56
+-- a halved cell that the kind of the tree forbids
 abbrev pub is_wrong_split : Questions → Kind → Cell → Bool
 is_wrong_split q OfReject c = false
 is_wrong_split q (OfOpen last) c = is_decided q c || nat_le last c.level
 
--- an undecided cell that the kind of the tree forbids: 56. The text of a reject has none
+-- an undecided cell that the kind of the tree forbids. The text of a reject has none
 abbrev pub is_wrong_left : Questions → Kind → Cell → Bool
 is_wrong_left q OfReject c = true
 is_wrong_left q (OfOpen last) c = is_decided q c || not (nat_eq c.level last)
 
 -- the code of a wrong line of a cell
 abbrev pub line_code : Questions → Kind → Cell → Node → Option ℕ
-line_code q kind c Split = cond (nat_eq c.level q.grid.finest) (Some 57) (cond (is_wrong_split q kind c) (Some 56) None)
-line_code q kind c Left = cond (is_wrong_left q kind c) (Some 56) None
-line_code q kind c (Refuted e) = cond (q.tests.refuted c e) None (Some 50)
+line_code q kind c Split = cond (nat_eq c.level q.grid.finest) (Some (code_of rule.FinestLevel)) (cond (is_wrong_split q kind c) (Some (code_of rule.Open)) None)
+line_code q kind c Left = cond (is_wrong_left q kind c) (Some (code_of rule.Open)) None
+line_code q kind c (Refuted e) = cond (q.tests.refuted c e) None (Some (code_of rule.Evidence))
 
 -- the cells that wait for their lines after the line of a cell: its halves first, where it is halved
 abbrev pub waiting_after : Questions → Cell → Node → List Cell → List Cell
@@ -58,11 +66,11 @@ with_code line (Some code) next = Some (fault line code)
 with_code line None next = next
 
 -- the first wrong line, from this line on, where these cells wait for their lines in order: a wrong line of its cell, a
--- line too many (54), or a cell without a line (53)
+-- line too many, or a cell without a line
 unfoldable pub wrong_line : Questions → Kind → List Cell → ℕ → List Node → Option CertFault
 wrong_line q kind [] line [] = None
-wrong_line q kind [] line (node ∷ nodes) = Some (fault line 54)
-wrong_line q kind (c ∷ cells) line [] = Some (fault line 53)
+wrong_line q kind [] line (node ∷ nodes) = Some (broken rule.NoCell line)
+wrong_line q kind (c ∷ cells) line [] = Some (broken rule.NoLine line)
 wrong_line q kind (c ∷ cells) line (node ∷ nodes) =
     with_code line (line_code q kind c node) (wrong_line q kind (waiting_after q c node cells) (line + 1) nodes)
 
@@ -101,11 +109,11 @@ is_placed q root at = nat_eq (length at) q.grid.numbers && q.tests.in_range (wit
 
 abbrev pub wrong_body : Questions → ℕ → ℕ → Body → Option CertFault
 wrong_body q budget line (Accept root at) =
-    cond (is_placed q root at) (cond (q.tests.holds (witness_of root at)) None (Some (fault (line + 1) 51))) (Some (fault (line + 1) 52))
+    cond (is_placed q root at) (cond (q.tests.holds (witness_of root at)) None (Some (broken rule.Witness (line + 1)))) (Some (broken rule.Place (line + 1)))
 wrong_body q budget line (Reject nodes) = wrong_line q OfReject (root_cells q) (line + 1) nodes
 wrong_body q budget line (Open counts nodes) =
     or_else (wrong_line q (OfOpen counts.level) (root_cells q) (line + 2) nodes)
-    (cond (are_wrong_counts q budget counts nodes) (Some (fault (line + 1) 56)) None)
+    (cond (are_wrong_counts q budget counts nodes) (Some (broken rule.Open (line + 1))) None)
 
 -- ---- a certificate
 -- the groups of the tasks, of which the first begins on this line
@@ -114,9 +122,9 @@ wrong_bodies [] budget line bodies = None
 wrong_bodies (q ∷ qs) budget line [] = None
 wrong_bodies (q ∷ qs) budget line (b ∷ bs) = or_else (wrong_body q budget line b) (wrong_bodies qs budget (line + 1 + length (body_lines b)) bs)
 
--- as many groups as tasks and as the fourth line tells: else that line is wrong, with code 55
+-- as many groups as tasks and as the fourth line states: else that line is wrong
 abbrev pub are_counted : List Questions → Certificate → Bool
 are_counted qs c = nat_eq (length c.groups) (length qs) && nat_eq c.told (length qs)
 
 abbrev pub first_wrong : List Questions → Certificate → Option CertFault
-first_wrong qs c = cond (are_counted qs c) (wrong_bodies qs c.share 5 c.groups) (Some (fault 4 55))
+first_wrong qs c = cond (are_counted qs c) (wrong_bodies qs c.share 5 c.groups) (Some (broken rule.Groups 4))

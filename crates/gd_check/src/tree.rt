@@ -3,8 +3,8 @@ ghost use Rattle.std.specs.Prelude.{◌≡◌, ◌<◌, ◌+◌, ◌^◌, ◌∷
 ghost use Rattle.std.specs.List.{All};
 ghost use Rattle.gd_cells.specs.Grid.{IsCell};
 ghost use Rattle.gd_cells.specs.declared.node.Node.{Node};
-ghost use Rattle.gd_check.specs.Rules.{code_of, kind_of};
-ghost use Rattle.gd_check.specs.Wrong.{is_decided, is_wrong_left, is_wrong_split, line_code};
+ghost use Rattle.gd_check.specs.Rules.{code_of};
+ghost use Rattle.gd_check.specs.Wrong.{is_decided, is_wrong_left, is_wrong_split, kind_of, line_code};
 ghost use Rattle.gd_check.specs.Wrong.{root_cells, waiting_after, with_code, wrong_line};
 
 use crate::rule::Rule;

@@ -47,7 +47,7 @@ corners_ordered (suc (suc zero)) a b p q one three h k = record { x = h; y = ome
 corners_ordered (suc (suc (suc zero))) a b p q one three h k = record { x = h; y = k; z = omega (arith, ints) }
 corners_ordered (suc (suc (suc (suc n)))) a b p q one three h k = absurd (omega arith)
 
-corner_within : (root : ℕ) (a b : ℤ) → 1 ≤ root → root ≤ 3 → unsigned_abs a ≤ 2 ^ 30 → unsigned_abs b ≤ 2 ^ 30 → IsWithin (2 ^ 30) (direction_of root a b)
+pub corner_within : (root : ℕ) (a b : ℤ) → 1 ≤ root → root ≤ 3 → unsigned_abs a ≤ 2 ^ 30 → unsigned_abs b ≤ 2 ^ 30 → IsWithin (2 ^ 30) (direction_of root a b)
 corner_within zero a b one three h k = absurd (omega arith)
 corner_within (suc zero) a b one three h k = record { x = omega arith; y = h; z = k }
 corner_within (suc (suc zero)) a b one three h k = record { x = h; y = omega arith; z = k }

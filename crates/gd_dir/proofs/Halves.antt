@@ -202,6 +202,8 @@ boxes_nest root l p side one three above small =
     rw (root-is root l p, root-is root (suc l) (2 * p + side)) (record {
       lo = corners_ordered root _ _ _ _ one three a.0 b.0;
       hi = corners_ordered root _ _ _ _ one three a.1 b.1;
+      offset_lo = record { x = omega (arith, ints); y = omega (arith, ints); z = omega (arith, ints) };
+      offset_hi = record { x = omega (arith, ints); y = omega (arith, ints); z = omega (arith, ints) };
     })
 
 -- ---- the grid's cells are cells of the faces

@@ -1,4 +1,6 @@
 pub mod Enclosure
+pub mod FormCells
 pub mod Halves
 mod KnownValues
+pub mod Lines
 pub mod Ratios

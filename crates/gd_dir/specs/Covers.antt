@@ -29,6 +29,8 @@ HalvesCover = (root level path axis : ℕ) (n : V3) → level < 60 → LiesIn (f
 pub record IsPart (a b : DirBox) : Type 0 where
   pub lo : IsBelow b.lo a.lo
   pub hi : IsBelow a.hi b.hi
+  pub offset_lo : IsBelow b.offset_lo a.offset_lo
+  pub offset_hi : IsBelow a.offset_hi b.offset_hi
 
 -- the boxes of both halves of a cell lie in the cell's box
 abbrev pub BoxesNest : Type 0

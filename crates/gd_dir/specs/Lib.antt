@@ -2,3 +2,5 @@ pub mod Boxes
 pub mod Covers
 pub mod Directions
 pub mod Faces
+pub mod FormBoxes
+pub mod Forms

@@ -41,7 +41,7 @@ pub fn direction(root: u32, first: i64, second: i64) -> V3
 }
 
 /// No offset.
-const ORIGIN: V3 = V3 { x: 0, y: 0, z: 0 };
+pub const ORIGIN: V3 = V3 { x: 0, y: 0, z: 0 };
 
 /// The directions of a cell of two ratios, in 2^-30, with no offset.
 pub fn face_box(c: &Cell) -> DirBox

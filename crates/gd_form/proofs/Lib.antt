@@ -5,11 +5,12 @@ pub mod AxisSound
 pub mod Blocks
 pub mod Decisions
 mod KnownValues
-pub mod RootExtremes
+pub mod Leading
 pub mod LineLoops
 pub mod Near
 pub mod Pairs
 pub mod Radius
+pub mod RootExtremes
 pub mod Roots
 pub mod Sizes
 pub mod Steps

@@ -6,4 +6,5 @@ pub mod FlatTask
 pub mod FlatTests
 pub mod Flatness
 pub mod Laws
+pub mod Leading
 pub mod Zones

@@ -4,11 +4,14 @@ ghost use Rattle.std.specs.List.{All};
 ghost use Rattle.std.specs.Ordering.{int_eq, is_gt};
 ghost use Rattle.gd_base.specs.Limits.{TOLERANCE};
 ghost use Rattle.gd_dir.specs.Boxes.{IsBox};
-ghost use Rattle.gd_form.specs.FlatTests.{evidence_of, first_evidence, highs, is_point, is_refuted, lows, most_norm2, parts, place_of, square_hi};
+ghost use Rattle.gd_form.specs.FlatTests.{evidence_of, first_evidence, highs, is_point, is_refuted, lows};
+ghost use Rattle.gd_form.specs.FlatTests.{most_norm2, parts, place_of, square_hi};
+ghost use Rattle.gd_form.specs.Leading.{LeadsByOne};
 ghost use Rattle.gd_int.specs.Roots.{cmp_root_of};
 ghost use Rattle.gd_vec.specs.Vector.{IsWithin};
 
-use crate::extremes::{Extremes, NO_LEAD, extremes_along, first_high, first_low, span_at};
+use crate::extremes::{Extremes, extremes_along, first_high, first_low};
+use crate::face::{Face, face_of, span_at};
 use crate::points::Points;
 use gd_cells::Evidence;
 use gd_dir::DirBox;
@@ -66,35 +69,38 @@ fn are_parted(b: &DirBox, lo: i64, hi: i64, tolerance: u32) -> bool
 /// The first evidence that refutes a box: the farthest point and the nearest.
 pub fn first_evidence_in(b: &DirBox, points: &Points<'_>, tolerance: u32) -> Option<Evidence>
     requires directions { IsBox b.now }
+    requires leads { LeadsByOne b.now }
     requires tolerance { tolerance ≤ TOLERANCE }
     ensures { result ≡ first_evidence points.now.table.now.rows tolerance b.now }
 {
-    let extremes = extremes_along(b, points);
+    let face = face_of(b, points);
+    let extremes = extremes_along(&face);
     if are_parted(
         b,
         extremes.farthest.value,
         extremes.nearest.value,
         tolerance,
     ) {
-        Some(evidence_at(b, points, extremes))
+        Some(evidence_at(&face, extremes))
     } else {
         None
     }
 }
 
 // The evidence of the first points that have these extremes.
-fn evidence_at(b: &DirBox, points: &Points<'_>, extremes: Extremes) -> Evidence
-    requires directions { IsBox b.now }
-    requires farthest { All (λ value. int_eq extremes.farthest.value value ≡ false) (take extremes.farthest.from (lows b.now points.now.table.now.rows)) }
-    requires nearest { All (λ value. int_eq extremes.nearest.value value ≡ false) (take extremes.nearest.from (highs b.now points.now.table.now.rows)) }
-    requires lo_size { unsigned_abs extremes.farthest.value ≤ 3 * 2 ^ 54 }
-    requires hi_size { unsigned_abs extremes.nearest.value ≤ 3 * 2 ^ 54 }
-    requires lo_place { extremes.farthest.from ≤ length points.now.table.now.rows }
-    requires hi_place { extremes.nearest.from ≤ length points.now.table.now.rows }
-    ensures { result ≡ evidence_of (place_of extremes.farthest.value (lows b.now points.now.table.now.rows)) (place_of extremes.nearest.value (highs b.now points.now.table.now.rows)) }
+fn evidence_at(face: &Face<'_>, extremes: Extremes) -> Evidence
+    requires farthest { All (λ value. int_eq extremes.farthest.value value ≡ false)
+        (take extremes.farthest.from (lows face.now.directions face.now.points.table.now.rows)) }
+    requires nearest { All (λ value. int_eq extremes.nearest.value value ≡ false)
+        (take extremes.nearest.from (highs face.now.directions face.now.points.table.now.rows)) }
+    requires lo_place { extremes.farthest.from ≤ length face.now.points.table.now.rows }
+    requires hi_place { extremes.nearest.from ≤ length face.now.points.table.now.rows }
+    ensures { result ≡ evidence_of
+        (place_of extremes.farthest.value (lows face.now.directions face.now.points.table.now.rows))
+        (place_of extremes.nearest.value (highs face.now.directions face.now.points.table.now.rows)) }
 {
-    let far = first_low(b, points, extremes.farthest);
-    let near = first_high(b, points, extremes.nearest);
+    let far = first_low(face, extremes.farthest);
+    let near = first_high(face, extremes.nearest);
     Evidence {
         condition: FLATNESS,
         a: far as u32 + 1,
@@ -113,19 +119,25 @@ fn names_a_point(number: u32, points: &Points<'_>) -> bool
 // Whether the points at two places, from 0, part a box.
 fn places_part(b: &DirBox, points: &Points<'_>, tolerance: u32, far: usize, near: usize) -> bool
     requires directions { IsBox b.now }
+    requires leads { LeadsByOne b.now }
     requires tolerance { tolerance ≤ TOLERANCE }
     requires far { far < length points.now.table.now.rows }
     requires near { near < length points.now.table.now.rows }
     ensures { result ≡ parts points.now.table.now.rows tolerance b.now far near }
 {
-    let lo = span_at(b, NO_LEAD, points, far).lo;
-    let hi = span_at(b, NO_LEAD, points, near).hi;
-    are_parted(b, lo, hi, tolerance)
+    let face = face_of(b, points);
+    are_parted(
+        b,
+        span_at(&face, far).lo,
+        span_at(&face, near).hi,
+        tolerance,
+    )
 }
 
 /// Whether this evidence refutes a box.
 pub fn is_refuted_at(b: &DirBox, points: &Points<'_>, tolerance: u32, evidence: &Evidence) -> bool
     requires directions { IsBox b.now }
+    requires leads { LeadsByOne b.now }
     requires tolerance { tolerance ≤ TOLERANCE }
     ensures { result ≡ is_refuted points.now.table.now.rows tolerance b.now evidence.now }
 {
@@ -163,8 +175,8 @@ mod tests {
         first_evidence_in(&face, &flat_task(&table, 10).points, 10)
     }
 
-    // By hand, for a corner of a cube of 1,000 units: along a face's own axis its point lies at 1,000 at least, and the first point at 0.
-    // No other point is below 0 throughout.
+    // By hand, for a corner of a cube of 1,000 units: along a face's own axis its point lies at 1,000 at least, and the
+    // first point at 0. No other point is below 0 throughout.
     #[test]
     fn faces(rt: HostRuntime) {
         let corner = b"feature,group,x,y,z\na,0,0,0,0\na,0,1000,0,0\na,0,0,1000,0\na,0,0,0,1000\n";

@@ -5,6 +5,7 @@ mod axis;
 mod axis_box;
 mod extent;
 mod extremes;
+mod face;
 mod flat;
 mod judged;
 mod laws;

@@ -6,7 +6,7 @@ ghost use Rattle.gd_form.specs.FlatTests.{along, greatest, is_within, least};
 ghost use Rattle.gd_int.specs.Roots.{cmp_root_of};
 ghost use Rattle.gd_vec.specs.Vector.{IsWithin, norm2_of};
 
-use crate::extremes::Span;
+use crate::face::Span;
 use crate::points::{Points, block_end, place_at};
 use crate::products::{short, sum, times};
 use gd_int::cmp_root;
@@ -36,12 +36,8 @@ fn span_to(n: &V3, points: &Points<'_>, before: Span, from: usize, to: usize) ->
     requires to { to ≤ length points.now.table.now.rows }
     requires lo { before.lo ≡ least (take from (along n.now points.now.table.now.rows)) }
     requires hi { before.hi ≡ greatest (take from (along n.now points.now.table.now.rows)) }
-    requires lo_size { unsigned_abs before.lo ≤ 3 * 2 ^ 54 }
-    requires hi_size { unsigned_abs before.hi ≤ 3 * 2 ^ 54 }
     ensures lo { result.lo ≡ least (take to (along n.now points.now.table.now.rows)) }
     ensures hi { result.hi ≡ greatest (take to (along n.now points.now.table.now.rows)) }
-    ensures lo_size { unsigned_abs result.lo ≤ 3 * 2 ^ 54 }
-    ensures hi_size { unsigned_abs result.hi ≤ 3 * 2 ^ 54 }
 {
     let mut least = before.lo;
     let mut most = before.hi;
@@ -59,8 +55,6 @@ fn span_to(n: &V3, points: &Points<'_>, before: Span, from: usize, to: usize) ->
 // Whether values are no further apart than the tolerance, in units, along a direction.
 fn is_narrow(n: &V3, span: Span, tolerance: u32) -> bool
     requires direction { IsWithin (2 ^ 30) n.now }
-    requires lo_size { unsigned_abs span.lo ≤ 3 * 2 ^ 54 }
-    requires hi_size { unsigned_abs span.hi ≤ 3 * 2 ^ 54 }
     requires tolerance { tolerance ≤ TOLERANCE }
     ensures { result ≡ is_le (cmp_root_of (span.hi -ℤ span.lo) (pos tolerance) (norm2_of n.now)) }
 {
@@ -68,7 +62,8 @@ fn is_narrow(n: &V3, span: Span, tolerance: u32) -> bool
     cmp_root(i128::from(spread), i128::from(tolerance), norm2(n)).is_le()
 }
 
-/// Whether the points lie within the tolerance, in units, along a direction in 2^-30. It looks at no further block of points once those before are too far apart.
+/// Whether the points lie within the tolerance, in units, along a direction in 2^-30. It looks at no further block of
+/// points once those before are too far apart.
 pub fn lies_within(n: &V3, points: &Points<'_>, tolerance: u32) -> bool
     requires direction { IsWithin (2 ^ 30) n.now }
     requires tolerance { tolerance ≤ TOLERANCE }

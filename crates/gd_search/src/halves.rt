@@ -12,7 +12,8 @@ use std::thread::{Threads, available_parallelism, for_each_chunk_mut};
 /// much.
 const CHUNK: usize = 500_000;
 
-/// How many chunks a level is cut in at most: halves, or halves of halves, until each processor has one, up to sixteen.
+/// How many chunks a level is cut in at most: halves, or halves of halves, until each processor has two, up to sixteen.
+/// The system moves a new thread to a processor of its own with a delay; with a second chunk the delay costs less.
 pub fn most_chunks<R: Threads>(rt: &R) -> usize
     ensures { 2 ≤ result }
 {
@@ -22,14 +23,14 @@ pub fn most_chunks<R: Threads>(rt: &R) -> usize
     }
 }
 
-// Two to the number of cuts that gives each of so many processors a chunk, one cut to four.
+// Two to the number of cuts that gives each of so many processors two chunks, one cut to four.
 fn chunks_for(processors: usize) -> usize
     ensures { 2 ≤ result }
 {
     match processors {
-        0..=2 => 2,
-        3..=4 => 4,
-        5..=8 => 8,
+        0..=1 => 2,
+        2 => 4,
+        3..=4 => 8,
         _ => 16,
     }
 }

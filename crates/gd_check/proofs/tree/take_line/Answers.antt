@@ -3,8 +3,8 @@ use Rattle.std.proofs.lemmas.List.Elements.{All-pop}
 use Rattle.gd_cells.specs.Grid.{IsCell}
 use Rattle.gd_cells.specs.Meaning.{Questions}
 use Rattle.gd_check.proofs.Waiting.{above_cell, line_breaks, line_keeps, low_cell, no_cell}
-use Rattle.gd_check.specs.Rules.{code_of, kind_of}
-use Rattle.gd_check.specs.Wrong.{line_code}
+use Rattle.gd_check.specs.Rules.{code_of}
+use Rattle.gd_check.specs.Wrong.{kind_of, line_code}
 use Rattle.gd_check.proofs.tree.take_line.Goals as goal
 
 pub returns-in_default-clause-line : goal.returns-in_default-clause-line

@@ -2,7 +2,7 @@ use Rattle.std.proofs.Common.{arith, rules, ◌≡◌, ◌<◌, [], drop, length
 use Rattle.std.proofs.lemmas.List.{drop_all}
 use Rattle.gd_cells.specs.Meaning.{Questions}
 use Rattle.gd_check.proofs.Waiting.{no_line, no_more}
-use Rattle.gd_check.specs.Rules.{kind_of}
+use Rattle.gd_check.specs.Wrong.{kind_of}
 use Rattle.gd_check.proofs.tree.wrong_line.Goals as goal
 
 pub returns-then-is_empty : goal.returns-then-is_empty

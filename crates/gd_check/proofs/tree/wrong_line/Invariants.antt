@@ -1,8 +1,7 @@
 use Rattle.std.proofs.Common.{◌≡◌, ◌+◌, drop, reverse}
 use Rattle.std.specs.List.{All}
 use Rattle.gd_cells.specs.Grid.{IsCell}
-use Rattle.gd_check.specs.Rules.{kind_of}
-use Rattle.gd_check.specs.Wrong.{root_cells, wrong_line}
+use Rattle.gd_check.specs.Wrong.{kind_of, root_cells, wrong_line}
 use Rattle.gd_check.proofs.tree.wrong_line.Given as goal
 
 abbrev pub invariant-loop-node : goal.invariant-loop-node

@@ -3,4 +3,4 @@ use Rattle.gd_form.specs.FlatTests.{highs}
 use Rattle.gd_form.proofs.extremes.first_high.Given as goal
 
 abbrev pub invariant-loop-at : goal.invariant-loop-at
-invariant-loop-at l = record { none : NoneBefore l.near.value l.at (highs l.b l.points.table.now.rows) }
+invariant-loop-at l = record { none : NoneBefore l.near.value l.at (highs l.face.directions l.face.points.table.now.rows) }

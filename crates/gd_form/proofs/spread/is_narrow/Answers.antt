@@ -18,6 +18,6 @@ returns c =
     let s : FitsSigned w128 c.from.result = search rules in
     let t : FitsSigned w128 c.from-2.result = search rules in
     let m : FitsSigned w128 c.norm2.result = search rules in
-    let e : c.from.result ≡ c.args.span.hi -ℤ c.args.span.lo = c.from.ensures ∙ rw (kept-is c.args.span.hi (omega (arith, c.requires.hi_size)), kept-is c.args.span.lo (omega (arith, c.requires.lo_size))) (kept-is (c.args.span.hi -ℤ c.args.span.lo) (omega (arith, ints, c.requires.lo_size, c.requires.hi_size))) in
+    let e : c.from.result ≡ c.args.span.hi -ℤ c.args.span.lo = c.from.ensures ∙ rw (kept-is c.args.span.hi (omega (arith, c.args.span.hi_size)), kept-is c.args.span.lo (omega (arith, c.args.span.lo_size))) (kept-is (c.args.span.hi -ℤ c.args.span.lo) (omega (arith, ints, c.args.span.lo_size, c.args.span.hi_size))) in
     let v = rw (to_z-of_z w128 c.from.result s, to_z-of_z w128 c.from-2.result t, to_z-of_z w128 c.norm2.result m, e, c.from-2.ensures, c.norm2.ensures.value) at c.cmp_root.ensures.value in
     c.is_le.ensures ∙ ap is_le v

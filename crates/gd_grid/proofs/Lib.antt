@@ -1,0 +1,8 @@
+pub mod Centres
+pub mod Grids
+pub mod Halves
+pub mod InTurn
+mod KnownValues
+pub mod Ranges
+pub mod Steps
+pub mod Widths

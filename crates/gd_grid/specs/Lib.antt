@@ -1,0 +1,4 @@
+pub mod Cells
+pub mod Coordinates
+pub mod Laws
+pub mod Turns

@@ -1,0 +1,29 @@
+-- Values worked by hand, so that a wrong definition doesn't check.
+use Rattle.std.proofs.Common.{◌≡◌, refl, ◌*◌, ◌^◌, pos, neg_ℤ, length}
+use Rattle.gd_grid.specs.Cells.{coordinate_at}
+use Rattle.gd_turn.specs.Ranges.{cells_of, coordinates_of, face_of, ratio}
+use Rattle.gd_turn.specs.declared.ranges.Ranges.{Ranges}
+use Rattle.gd_turn.specs.declared.ranges.TurnRange.TheVariants.{All, Within}
+
+-- every rotation, shifts of 16 units about (100, 0, 0), one offset
+abbrev all_turns : Ranges
+all_turns = record { turn = All; shift = 4; centre = record { x = pos 100; y = pos 0; z = pos 0 }; offsets = 1 }
+
+known_dims : length (coordinates_of all_turns) ≡ 9
+known_dims = refl
+
+-- shifts leave 20 halvings, so nine coordinates have 180 levels
+known_finest : (cells_of all_turns).finest ≡ 180
+known_finest = refl
+
+-- 84 to 116 units along x, in fine units
+known_shift : coordinate_at (coordinates_of all_turns) 3 ≡ record { low = pos (84 * 2 ^ 16); bits = 21 }
+known_shift = refl
+
+-- ratios within 2^-20
+known_ratio : ratio (Within 20) ≡ record { low = neg_ℤ (pos (2 ^ 10)); bits = 11 }
+known_ratio = refl
+
+-- the third root is that of the third component, and a narrow range has the first alone
+known_face : face_of All 3 ≡ 2
+known_face = refl

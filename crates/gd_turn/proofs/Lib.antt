@@ -1,0 +1,6 @@
+pub mod Coordinates
+pub mod Covers
+pub mod Holds
+pub mod ImageWidths
+mod KnownValues
+pub mod Nests
