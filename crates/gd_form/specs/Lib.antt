@@ -1,5 +1,10 @@
+pub mod Axes
+pub mod AxisBoxes
+pub mod AxisLaws
+pub mod AxisTests
 pub mod FlatTask
 pub mod FlatTests
 pub mod Flatness
 pub mod Laws
 pub mod Leading
+pub mod Zones
