@@ -38,7 +38,7 @@ any-is p xs false all some = list_any_none p xs (λ k d l. not-true (p (get_or x
 abbrev pub Falls : (ℤ → ℤ → Bool) → Type 0
 Falls test = (x x' y y' : ℤ) → x' ≤ℤ x → y ≤ℤ y' → test x y ≡ true → test x' y' ≡ true
 
-z-refl : (x : ℤ) → x ≤ℤ x
+pub z-refl : (x : ℤ) → x ≤ℤ x
 z-refl x = omega (arith, ints)
 
 module _ (test : ℤ → ℤ → Bool) (falls : Falls test) (hi lo : Ends → ℤ) (vs ws : List Ends) where
@@ -92,7 +92,7 @@ not-falls true b f h = absurd (false≢true h)
 not-falls false true f h = absurd (false≢true (f refl))
 not-falls false false f h = refl
 
-more-above : (a a' h n : ℤ) → a ≤ℤ a' → is_more a h n ≡ true → is_more a' h n ≡ true
+pub more-above : (a a' h n : ℤ) → a ≤ℤ a' → is_more a h n ≡ true → is_more a' h n ≡ true
 more-above a a' h n l t = not-falls (is_at_most a h n) (is_at_most a' h n) (at-most-below a' a h n l) t
 
 widest-falls : (s : Surface) (x x' y y' : ℤ) → x' ≤ℤ x → y ≤ℤ y' → at_widest s x' y' ≤ℤ at_widest s x y
@@ -115,7 +115,7 @@ passes_by_more s t hi lo = is_more (at_narrowest s lo hi) t (length2_of s)
 at-most-falls : (s : Surface) (t : ℤ) → Falls (passes_at_most s t)
 at-most-falls s t x x' y y' h k p = at-most-below (at_widest s x y) (at_widest s x' y') t (length2_of s) (widest-falls s x x' y y' h k) p
 
-more-falls : (s : Surface) (t : ℤ) → Falls (passes_by_more s t)
+pub more-falls : (s : Surface) (t : ℤ) → Falls (passes_by_more s t)
 more-falls s t x x' y y' h k p = more-above (at_narrowest s y x) (at_narrowest s y' x') t (length2_of s) (narrowest-falls s x x' y y' h k) p
 
 -- ---- what holds
