@@ -1,0 +1,4 @@
+pub mod Firsts
+pub mod Groups
+pub mod Refuting
+pub mod Written
