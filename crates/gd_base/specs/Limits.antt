@@ -54,6 +54,36 @@ DIAMETER = 16000000
 abbrev pub SLACK : ℕ
 SLACK = 10000
 
+-- the slack of a datum that states none
+abbrev pub USUAL_SLACK : ℕ
+USUAL_SLACK = 10
+
+-- the most tables of features, of datums and of frames in a frame file
+abbrev pub FEATURES : ℕ
+FEATURES = 1024
+
+abbrev pub DATUMS : ℕ
+DATUMS = 64
+
+abbrev pub FRAMES : ℕ
+FRAMES = 256
+
+-- the most features of one frame
+abbrev pub FRAME_FEATURES : ℕ
+FRAME_FEATURES = 64
+
+-- the most datum words of one frame
+abbrev pub WORDS : ℕ
+WORDS = 3
+
+-- the most local offsets of a group
+abbrev pub OFFSETS : ℕ
+OFFSETS = 2
+
+-- the most conditions of a group
+abbrev pub CONDITIONS : ℕ
+CONDITIONS = 4096
+
 -- the most groups that a certificate states
 abbrev pub GROUPS : ℕ
 GROUPS = 300000

@@ -22,6 +22,45 @@ pub const FILE_BYTES: usize = 134_217_728;
 /// The most bytes of a name.
 pub const NAME_BYTES: usize = 32;
 
+/// The greatest size of an entry of a nominal direction.
+pub const ENTRY: u32 = 1_000;
+
+/// The greatest exponent of a range of angles: ratios lie within 2^-20 then.
+pub const TURN: u32 = 20;
+
+/// The greatest exponent of a range of shifts, in units.
+pub const SHIFT: u32 = 25;
+
+/// The greatest nominal radius, in units.
+pub const RADIUS: u32 = 8_000_000;
+
+/// The greatest nominal diameter, of a feature or of a boundary, in units.
+pub const DIAMETER: u32 = 16_000_000;
+
+/// The greatest slack of a contact, and the slack of a datum that states none, in units.
+pub const SLACK: u32 = 10_000;
+
+pub const USUAL_SLACK: u32 = 10;
+
+/// The most tables of features, of datums and of frames in a frame file.
+pub const FEATURES: usize = 1_024;
+
+pub const DATUMS: usize = 64;
+
+pub const FRAMES: usize = 256;
+
+/// The most features of one frame.
+pub const FRAME_FEATURES: usize = 64;
+
+/// The most datum words of one frame.
+pub const WORDS: usize = 3;
+
+/// The most local offsets of a group.
+pub const OFFSETS: u32 = 2;
+
+/// The most conditions of a group.
+pub const CONDITIONS: u32 = 4_096;
+
 /// The most groups that a certificate states.
 pub const GROUPS: u32 = 300_000;
 
