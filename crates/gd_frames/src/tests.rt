@@ -30,16 +30,32 @@ datum = [
 ]
 ";
 
-// The code, the row and the column of the first fault, or zeros.
-fn told(alloc: Global, head: &str, tail: &str) -> Result<(u32, u32, u32), AllocError> {
-    let text = format!(in alloc; "{head}{tail}")?;
-    let Ok(points) = read_points(alloc, POINTS.as_bytes()) else {
-        return Ok((99, 0, 0));
+// What a reader answers: how many features, datums and frames it read, or the code, the row and the column of a fault.
+#[derive(Clone, Copy, Debug, PartialEq, Eq)]
+pub(crate) enum Told {
+    Read(usize, usize, usize),
+    Fault(u32, u32, u32),
+    Nothing,
+}
+
+pub(crate) fn answer(alloc: Global, points: &[u8], text: &[u8]) -> Told {
+    let Ok(points) = read_points(alloc, points) else {
+        return Told::Nothing;
     };
-    match read_frames(alloc, text.as_bytes(), &points) {
-        Ok(_) => Ok((0, 0, 0)),
-        Err(ReadFault::Input(fault)) => Ok((fault.code, fault.row, fault.column)),
-        Err(ReadFault::Memory) => Ok((98, 0, 0)),
+    match read_frames(alloc, text, &points) {
+        Ok(file) => Told::Read(file.features.len(), file.datums.len(), file.frames.len()),
+        Err(ReadFault::Input(fault)) => Told::Fault(fault.code, fault.row, fault.column),
+        Err(ReadFault::Memory) => Told::Nothing,
+    }
+}
+
+// The code, the row and the column of the first fault, or zeros.
+fn fault_of(alloc: Global, head: &str, tail: &str) -> Result<(u32, u32, u32), AllocError> {
+    let text = format!(in alloc; "{head}{tail}")?;
+    match answer(alloc, POINTS.as_bytes(), text.as_bytes()) {
+        Told::Read(_, _, _) => Ok((0, 0, 0)),
+        Told::Fault(code, row, column) => Ok((code, row, column)),
+        Told::Nothing => Ok((99, 0, 0)),
     }
 }
 
@@ -55,6 +71,10 @@ fn top_levels(rt: HostRuntime) -> Result<(), Fail> {
         ("version = 1.0", (24, 0, 0)),
         ("version = 1979-05-27", (24, 0, 0)),
         ("version = 1", (23, 0, 0)),
+        ("version = 2\nturn = true", (21, 0, 0)),
+        ("turn = 21", (23, 0, 0)),
+        ("colour = 1\nversion = '1'", (22, 0, 0)),
+        ("version = 1\nfeature = [{hue = 1}]", (23, 0, 0)),
         ("version = 1\nframe = []", (23, 0, 0)),
         ("version = 1\nframe = 1", (24, 0, 0)),
         ("version = 1\nframe = [1]", (24, 0, 0)),
@@ -74,7 +94,7 @@ fn top_levels(rt: HostRuntime) -> Result<(), Fail> {
         ),
     ];
     for (text, want) in cases {
-        assert_eq!(rt; told(rt.alloc(), "", text)?, want, "{text}");
+        assert_eq!(rt; fault_of(rt.alloc(), "", text)?, want, "{text}");
     }
     Ok(())
 }
@@ -95,6 +115,14 @@ fn features_and_datums(rt: HostRuntime) -> Result<(), Fail> {
         ("feature = [{name = 'p', shape = 'plane'}]", (23, 1, 1)),
         (
             "feature = [{name = 'p', shape = 'plane', direction = [0, 0, 1001]}]",
+            (25, 1, 1),
+        ),
+        (
+            "feature = [{name = 'p', shape = 'plane', direction = [0, 'x', 1001, 0]}]",
+            (24, 1, 1),
+        ),
+        (
+            "feature = [{name = 'p', shape = 'plane', direction = [0, 0, 0, 0]}]",
             (25, 1, 1),
         ),
         (
@@ -129,7 +157,7 @@ fn features_and_datums(rt: HostRuntime) -> Result<(), Fail> {
     ];
     for (text, want) in cases {
         assert_eq!(rt;
-            told(rt.alloc(), "version = 1\nframe = [{}]\n", text)?,
+            fault_of(rt.alloc(), "version = 1\nframe = [{}]\n", text)?,
             want,
             "{text}"
         );
@@ -188,6 +216,31 @@ fn frames(rt: HostRuntime) -> Result<(), Fail> {
         (
             "kind = 'position', features = ['a'], tolerance = 10, datums = ['P', 'P(M)']",
             (28, 1, 3),
+        ),
+        ("kind = 'position', features = ['X']", (26, 1, 3)),
+        (
+            "kind = 'position', features = ['a'], tolerance = 10, datums = ['X', 'X(M)']",
+            (28, 1, 3),
+        ),
+        (
+            "kind = 'position', features = ['h'], tolerance = 10, datums = ['X']",
+            (27, 1, 3),
+        ),
+        (
+            "kind = 'position', features = ['h'], tolerance = 10, datums = ['M(M)']",
+            (31, 1, 3),
+        ),
+        (
+            "kind = 'position', features = ['h'], tolerance = 10, datums = ['Q']",
+            (31, 1, 3),
+        ),
+        (
+            "kind = 'position', features = ['a'], tolerance = 10, datums = ['Q', 'M(M)']",
+            (23, 1, 3),
+        ),
+        (
+            "kind = 'parallelism', features = ['a', 'b', 'c'], tolerance = 10, datums = ['Q']",
+            (29, 1, 3),
         ),
         (
             "kind = 'position', features = ['a'], tolerance = 10, datums = ['P (M)']",
@@ -308,7 +361,11 @@ fn frames(rt: HostRuntime) -> Result<(), Fail> {
     ];
     for (keys, want) in cases {
         let text = format!(in rt.alloc(); "frame = [{{name = 'f', {keys}}}]\n")?;
-        assert_eq!(rt; told(rt.alloc(), FEATURES, text.as_str())?, want, "{keys}");
+        assert_eq!(rt;
+            fault_of(rt.alloc(), FEATURES, text.as_str())?,
+            want,
+            "{keys}"
+        );
     }
     Ok(())
 }

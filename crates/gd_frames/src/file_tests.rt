@@ -1,0 +1,418 @@
+use crate::tests::{Told, answer};
+use std::alloc::{AllocError, Global};
+use std::test::Fail;
+
+const SADDLE: &str = "feature,group,x,y,z
+s,0,0,0,0\ns,0,1000,0,0\ns,0,0,1000,0\ns,0,1000,1000,10\n";
+
+const LEAST: &str = "version = 1
+frame = [{name = 'top', kind = 'flatness', features = ['s'], tolerance = 10}]
+feature = [{name = 's', shape = 'plane', direction = [0, 0, 1], point = [0, 0, 0]}]
+";
+
+const BORE: &str = "feature,group,x,y,z
+base,1,0,0,0\nbase,2,400000,0,0\nbase,3,0,400000,0\nbore,0,200500,200000,0\n";
+
+const EVERYTHING: &str = "version = 1
+turn = 6
+shift = 14
+centre = [0, 0, 0]
+
+[[feature]]
+name = 'base'
+shape = 'plane'
+direction = [0, 0, 1]
+point = [0, 0, 0]
+
+[[feature]]
+name = 'bore'
+shape = 'hole'
+direction = [0, 0, 1]
+point = [200000, 200000, 0]
+radius = 500
+mmc = 990
+lmc = 1010
+
+[[datum]]
+name = 'A'
+feature = 'base'
+slack = 10
+
+[[datum]]
+name = 'B'
+feature = 'bore'
+slack = 10
+boundary = 980
+
+[[frame]]
+name = 'pattern'
+kind = 'position'
+features = ['bore']
+tolerance = 100
+datums = ['A', 'B(M)']
+material = 'mmc'
+lower = 10
+lower_datums = ['A']
+separate = true
+
+[[frame]]
+name = 'outline'
+kind = 'profile'
+features = ['base', 'bore']
+tolerance = 40
+datums = ['A']
+above = 10
+";
+
+// Eight points on a circle of radius 5,000 units, one of them 10 further out.
+const CIRCLE: &str = "feature,group,x,y,z
+c,1,3006,4008,0\nc,1,4000,3000,0\nc,1,-3000,4000,0\nc,1,-4000,3000,0
+c,1,3000,-4000,0\nc,1,4000,-3000,0\nc,1,-3000,-4000,0\nc,1,-4000,-3000,0\n";
+
+const ROUND: &str = "version = 1
+shift = 4
+feature = [{name = 'c', shape = 'hole', direction = [0, 0, 1], point = [0, 0, 0]}]
+frame = [{name = 'ci', kind = 'circularity', features = ['c'], tolerance = 10}]
+";
+
+// A plate of 200 by 100 mm with four holes, whose axes were measured.
+const PLATE: &str = "feature,group,x,y,z
+base,1,100000,100000,0\nbase,2,1900000,100000,4\nbase,3,1000000,900000,6
+back,1,300000,2,50000\nback,2,1700000,0,50000\nleft,1,3,500000,50000
+h1,0,200020,199990,0\nh1,0,200030,199990,100000\nh2,0,1799990,200015,0\nh2,0,1799990,200020,100000
+h3,0,200000,800040,0\nh3,0,200000,800040,100000\nh4,0,1800050,800000,0\nh4,0,1800050,800000,100000\n";
+
+const PLATE_MOVED: &str = "feature,group,x,y,z
+base,1,100000,100000,0\nbase,2,1900000,100000,4\nbase,3,1000000,900000,6
+back,1,300000,2,50000\nback,2,1700000,0,50000\nleft,1,3,500000,50000
+h1,0,200020,199990,0\nh1,0,200030,199990,100000\nh2,0,1799990,200015,0\nh2,0,1799990,200020,100000
+h3,0,200000,800040,0\nh3,0,200000,800040,100000\nh4,0,1800500,800000,0\nh4,0,1800500,800000,100000\n";
+
+// The base has two contact groups.
+const PLATE_TWO: &str = "feature,group,x,y,z
+base,1,100000,100000,0\nbase,2,1900000,100000,4\nbase,2,1000000,900000,6
+back,1,300000,2,50000\nback,2,1700000,0,50000\nleft,1,3,500000,50000
+h1,0,200020,199990,0\nh2,0,1799990,200015,0\nh3,0,200000,800040,0\nh4,0,1800050,800000,0\n";
+
+const POSITION: &str = "
+feature = [
+{name = 'base', shape = 'plane', direction = [0, 0, 1], point = [0, 0, 0]},
+{name = 'back', shape = 'plane', direction = [0, 1, 0], point = [0, 0, 0]},
+{name = 'left', shape = 'plane', direction = [1, 0, 0], point = [0, 0, 0]},
+{name = 'h1', shape = 'axis', direction = [0, 0, 1], point = [200000, 200000, 0]},
+{name = 'h2', shape = 'axis', direction = [0, 0, 1], point = [1800000, 200000, 0]},
+{name = 'h3', shape = 'axis', direction = [0, 0, 1], point = [200000, 800000, 0]},
+{name = 'h4', shape = 'axis', direction = [0, 0, 1], point = [1800000, 800000, 0]},
+]
+datum = [
+{name = 'A', feature = 'base', slack = 10},
+{name = 'B', feature = 'back', slack = 10},
+{name = 'C', feature = 'left', slack = 10},
+]
+frame = [
+{name = 'pos', kind = 'position', features = ['h1', 'h2', 'h3', 'h4'], tolerance = 100, datums = ['A', 'B', 'C']},
+]
+";
+
+// A datum hole, and a hole beside it.
+const HOLE: &str = "feature,group,x,y,z
+d,1,1000,0,0\nd,2,-1000,0,0\nd,3,0,1000,0\nd,4,0,-1000,0
+h,0,10518,0,0\nh,0,9518,0,0\nh,0,10018,500,0\nh,0,10018,-500,0\n";
+
+const DATUM_HOLE: &str = "version = 1
+turn = 20
+feature = [{name = 'd', shape = 'hole', direction = [0, 0, 1], point = [0, 0, 0]},";
+
+const AT_MMC: &str = "
+{name = 'h', shape = 'hole', direction = [0, 0, 1], point = [10000, 0, 0], mmc = 1000}]
+shift = 5
+centre = [982, 0, 0]
+datum = [{name = 'D', feature = 'd', slack = 2, boundary = 1960}]
+";
+
+const AT_MMC_5: &str = "
+{name = 'h', shape = 'hole', direction = [0, 0, 1], point = [10000, 0, 0], mmc = 5}]
+shift = 5
+centre = [982, 0, 0]
+datum = [{name = 'D', feature = 'd', slack = 2, boundary = 1960}]
+";
+
+const TWO_HOLES: &str = "feature,group,x,y,z
+d,1,1000,0,0\nd,2,-1000,0,0\nd,3,0,1000,0\nd,4,0,-1000,0\nh1,0,10008,0,0\nh2,0,19992,0,0\n";
+
+const TWO_AXES: &str = "
+{name = 'h1', shape = 'axis', direction = [0, 0, 1], point = [10000, 0, 0]},
+{name = 'h2', shape = 'axis', direction = [0, 0, 1], point = [20000, 0, 0]}]
+shift = 4
+datum = [{name = 'D', feature = 'd', boundary = 1960}]
+";
+
+const SEAT: &str = "feature,group,x,y,z
+d,1,1000,0,0\nd,2,-1000,0,0\nd,3,0,1000,0\nd,4,0,-1000,0
+seat,1,2000,0,5000\nseat,1,-2010,0,5000\nseat,2,3000,0,9000\nseat,2,0,3010,9000\n";
+
+const RUNOUT: &str = "version = 1
+turn = 20
+shift = 0
+feature = [
+{name = 'd', shape = 'pin', direction = [0, 0, 1], point = [0, 0, 0]},
+{name = 'seat', shape = 'pin', direction = [0, 0, 1], point = [0, 0, 0]},
+]
+datum = [{name = 'D', feature = 'd', slack = 10}]
+frame = [
+{name = 'cr', kind = 'circular_runout', features = ['seat'], tolerance = 10, datums = ['D'], separate = true},
+{name = 'tr', kind = 'total_runout', features = ['seat'], tolerance = 10, datums = ['D'], separate = true},
+]
+";
+
+#[test]
+fn whole_files(rt: HostRuntime) -> Result<(), Fail> {
+    let cases = [
+        ("the least", SADDLE, LEAST, "", "", Told::Read(1, 0, 1)),
+        ("everything", BORE, EVERYTHING, "", "", Told::Read(2, 2, 2)),
+        ("circularity", CIRCLE, ROUND, "", "", Told::Read(1, 0, 1)),
+        (
+            "a plate",
+            PLATE,
+            "version = 1\nturn = 6\nshift = 14",
+            POSITION,
+            "",
+            Told::Read(7, 3, 1),
+        ),
+        (
+            "a hole that is off",
+            PLATE_MOVED,
+            "version = 1\nturn = 20\nshift = 4",
+            POSITION,
+            "",
+            Told::Read(7, 3, 1),
+        ),
+        (
+            "a base that touches twice",
+            PLATE_TWO,
+            "version = 1\nturn = 6\nshift = 14",
+            POSITION,
+            "",
+            Told::Fault(29, 1, 3),
+        ),
+        (
+            "at maximum material, the datum too",
+            HOLE,
+            DATUM_HOLE,
+            AT_MMC,
+            "frame = [{name = 'm', kind = 'position', features = ['h'], tolerance = 10, material = 'mmc', datums = ['D(M)']}]",
+            Told::Read(2, 1, 1),
+        ),
+        (
+            "at maximum material",
+            HOLE,
+            DATUM_HOLE,
+            AT_MMC,
+            "frame = [{name = 'm', kind = 'position', features = ['h'], tolerance = 10, material = 'mmc', datums = ['D']}]",
+            Told::Read(2, 1, 1),
+        ),
+        (
+            "a tolerance that is wider than the hole",
+            HOLE,
+            DATUM_HOLE,
+            AT_MMC_5,
+            "frame = [{name = 'm', kind = 'position', features = ['h'], tolerance = 10, material = 'mmc', datums = ['D(M)']}]",
+            Told::Read(2, 1, 1),
+        ),
+        (
+            "two frames of one group",
+            TWO_HOLES,
+            DATUM_HOLE,
+            TWO_AXES,
+            "frame = [
+{name = 'f1', kind = 'position', features = ['h1'], tolerance = 10, datums = ['D(M)']},
+{name = 'f2', kind = 'position', features = ['h2'], tolerance = 10, datums = ['D(M)']}]",
+            Told::Read(3, 1, 2),
+        ),
+        (
+            "two frames, each by itself",
+            TWO_HOLES,
+            DATUM_HOLE,
+            TWO_AXES,
+            "frame = [
+{name = 'f1', kind = 'position', features = ['h1'], tolerance = 10, datums = ['D(M)'], separate = true},
+{name = 'f2', kind = 'position', features = ['h2'], tolerance = 10, datums = ['D(M)'], separate = true}]",
+            Told::Read(3, 1, 2),
+        ),
+        (
+            "a composite frame",
+            TWO_HOLES,
+            DATUM_HOLE,
+            TWO_AXES,
+            "frame = [
+{name = 'pat', kind = 'position', features = ['h1', 'h2'], tolerance = 100, datums = ['D(M)'], lower = 10, lower_datums = ['D(M)']}]",
+            Told::Read(3, 1, 1),
+        ),
+        ("runouts", SEAT, RUNOUT, "", "", Told::Read(2, 1, 2)),
+    ];
+    for (name, points, head, middle, tail, want) in cases {
+        let text = format!(in rt.alloc(); "{head}{middle}{tail}\n")?;
+        let got = answer(rt.alloc(), points.as_bytes(), text.as_bytes());
+        assert_eq!(rt; got, want, "{name}");
+    }
+    Ok(())
+}
+
+// The smallest file of each code, as docs/FORMATS.md has it; those of 32 and 34 stand below.
+#[test]
+fn smallest_files(rt: HostRuntime) -> Result<(), Fail> {
+    let feature =
+        "feature = [{name = 's', shape = 'plane', direction = [0, 0, 1], point = [0, 0, 0]}]\n";
+    let frame = "frame = [{name = 'top', kind = 'flatness', features = ['s'], tolerance = 10}]\n";
+    let cases = [
+        ("v", "", "", Told::Fault(20, 0, 0)),
+        ("version = 2", "", "", Told::Fault(21, 0, 0)),
+        (
+            "a = 1\nversion = 1\n",
+            feature,
+            frame,
+            Told::Fault(22, 0, 0),
+        ),
+        ("", "", "", Told::Fault(23, 0, 0)),
+        ("version = '1'", "", "", Told::Fault(24, 0, 0)),
+        (
+            "version = 1\nturn = 21\n",
+            feature,
+            frame,
+            Told::Fault(25, 0, 0),
+        ),
+        (
+            "version = 1\n",
+            feature,
+            "frame = [{name = 'top', kind = 'flatness', features = ['x'], tolerance = 10}]",
+            Told::Fault(26, 1, 3),
+        ),
+        (
+            "version = 1\n",
+            feature,
+            "frame = [{name = 'top', kind = 'flatness', features = ['s'], tolerance = 10, datums = ['X']}]",
+            Told::Fault(27, 1, 3),
+        ),
+        (
+            "version = 1\nfeature = [{name = 's', shape = 'plane', direction = [0, 0, 1], point = [0, 0, 0]},",
+            "{name = 's', shape = 'plane', direction = [0, 0, 1], point = [0, 0, 0]}]\n",
+            frame,
+            Told::Fault(28, 2, 1),
+        ),
+        (
+            "version = 1\ndatum = [{name = 'D', feature = 's'}]\n",
+            feature,
+            "frame = [{name = 'top', kind = 'profile', features = ['s'], tolerance = 10, datums = ['D']}]",
+            Told::Fault(29, 1, 3),
+        ),
+        (
+            "version = 1\n",
+            "feature = [{name = 's', shape = 'plane', direction = [0, 0, 0], point = [0, 0, 0]}]\n",
+            frame,
+            Told::Fault(30, 1, 1),
+        ),
+        (
+            "version = 1\n",
+            feature,
+            "frame = [{name = 'top', kind = 'flatness', features = ['s'], tolerance = 10, material = 'mmc'}]",
+            Told::Fault(31, 1, 3),
+        ),
+    ];
+    for (head, middle, tail, want) in cases {
+        let text = format!(in rt.alloc(); "{head}{middle}{tail}")?;
+        let got = answer(rt.alloc(), SADDLE.as_bytes(), text.as_bytes());
+        assert_eq!(rt; got, want, "{text}");
+    }
+    let got = answer(
+        rt.alloc(),
+        SADDLE.as_bytes(),
+        b"version = 1\nturn = '\xff'\n".as_slice(),
+    );
+    assert_eq!(rt; got, Told::Fault(20, 0, 0));
+    Ok(())
+}
+
+// A text of as many empty tables.
+fn empty_tables(alloc: Global, key: &str, count: usize) -> Result<String, AllocError> {
+    let mut text = format!(in alloc; "version = 1\n{key} = [")?;
+    for _ in 0..count {
+        text.push_str("{},")?;
+    }
+    text.push_str("]\n")?;
+    Ok(text)
+}
+
+// A list at its limit is read on, up to its first table, and one table more is a fault of the top level.
+#[test]
+fn long_lists(rt: HostRuntime) -> Result<(), Fail> {
+    let cases = [
+        ("feature", 1_024, "frame = [{}]", Told::Fault(23, 1, 1)),
+        ("feature", 1_025, "frame = [{}]", Told::Fault(25, 0, 0)),
+        ("datum", 64, "frame = [{}]", Told::Fault(23, 1, 2)),
+        ("datum", 65, "frame = [{}]", Told::Fault(25, 0, 0)),
+        ("frame", 256, "", Told::Fault(23, 1, 3)),
+        ("frame", 257, "", Told::Fault(25, 0, 0)),
+    ];
+    for (key, count, tail, want) in cases {
+        let mut text = empty_tables(rt.alloc(), key, count)?;
+        text.push_str(tail)?;
+        let got = answer(rt.alloc(), SADDLE.as_bytes(), text.as_bytes());
+        assert_eq!(rt; got, want, "{count} of {key}");
+    }
+    Ok(())
+}
+
+// Points of five pins: 1,000 groups each of the first four, and so many of the last. The datum `d` has three.
+fn five_pins(alloc: Global, last: u32) -> Result<String, AllocError> {
+    let mut text = String::new(alloc);
+    text.push_str("feature,group,x,y,z\nd,1,9,0,0\nd,2,0,9,0\nd,3,-9,0,0\n")?;
+    for (name, groups) in [
+        ("p1", 1_000),
+        ("p2", 1_000),
+        ("p3", 1_000),
+        ("p4", 1_000),
+        ("p5", last),
+    ] {
+        for group in 0..groups {
+            let line = format!(in alloc; "{name},{group},9,0,0\n")?;
+            text.push_str(line.as_str())?;
+        }
+    }
+    Ok(text)
+}
+
+const PINS: &str = "version = 1
+feature = [
+{name = 'd', shape = 'pin', direction = [0, 0, 1], point = [0, 0, 0]},
+{name = 'p1', shape = 'pin', direction = [0, 0, 1], point = [0, 0, 0], mmc = 18},
+{name = 'p2', shape = 'pin', direction = [0, 0, 1], point = [0, 0, 0], mmc = 18},
+{name = 'p3', shape = 'pin', direction = [0, 0, 1], point = [0, 0, 0], mmc = 18},
+{name = 'p4', shape = 'pin', direction = [0, 0, 1], point = [0, 0, 0]},
+{name = 'p5', shape = 'pin', direction = [0, 0, 1], point = [0, 0, 0]},
+]
+datum = [{name = 'D', feature = 'd'}]
+";
+
+const CIRCULAR: &str =
+    "{name = 'c', kind = 'circular_runout', features = ['p1', 'p2', 'p3', 'p4', 'p5'], tolerance = 9, datums = ['D']}";
+
+const PARALLEL: &str =
+    "{name = 'p', kind = 'parallelism', features = ['p1', 'p2', 'p3'], tolerance = 9, material = 'mmc', datums = ['D']}";
+
+// 3 conditions of the datum word, 4,000 of the first four pins, and those of the last.
+#[test]
+fn many_conditions(rt: HostRuntime) -> Result<(), Fail> {
+    let cases = [
+        (93, CIRCULAR, "", Told::Read(6, 1, 1)),
+        (94, CIRCULAR, "", Told::Fault(34, 1, 3)),
+        (94, CIRCULAR, PARALLEL, Told::Fault(34, 1, 3)),
+        (94, PARALLEL, CIRCULAR, Told::Fault(32, 1, 3)),
+    ];
+    for (last, first, second, want) in cases {
+        let points = five_pins(rt.alloc(), last)?;
+        let text = format!(in rt.alloc(); "{PINS}frame = [{first},{second}]\n")?;
+        let got = answer(rt.alloc(), points.as_bytes(), text.as_bytes());
+        assert_eq!(rt; got, want, "{last} groups, {first}");
+    }
+    Ok(())
+}
