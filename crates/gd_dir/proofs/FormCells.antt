@@ -1,5 +1,5 @@
 -- The forms by their grids: their boxes hold the candidates of their cells, and their cells cover all.
-use Rattle.std.proofs.Common.{arith, ◌≡◌, refl, sym, ap, subst, ◌∙◌, ℕ, zero, suc, ◌+◌, ◌*◌, ◌^◌, ◌≤◌, ◌<◌, ℤ, pos, ◌+ℤ◌, ◌-ℤ◌, ◌*ℤ◌, ◌≤ℤ◌, ◌<ℤ◌, ◌⊎◌, inl, inr, unsigned_abs, Bool, true, false, ◌==◌, if◌then◌else◌, List}
+use Rattle.std.proofs.Common.{arith, ◌≡◌, refl, sym, ap, subst, ◌∙◌, ℕ, zero, suc, ◌+◌, ◌*◌, ◌^◌, ◌≤◌, ◌<◌, ℤ, pos, ◌+ℤ◌, ◌-ℤ◌, ◌*ℤ◌, ◌≤ℤ◌, ◌<ℤ◌, ◌⊎◌, inl, inr, unsigned_abs, Bool, true, false, ◌==◌, if◌then◌else◌, List, [], ◌∷◌}
 use Rattle.std.proofs.lemmas.Int.{ints}
 use Rattle.std.proofs.lemmas.Nat.{pow-add}
 use Rattle.gd_cells.specs.Grid.{Grid, IsCell, cell_of}
@@ -47,6 +47,14 @@ are_lines shift h = record { some = omega arith; few = omega arith; each = each 
     each (suc (suc zero)) k = offset_is shift h
     each (suc (suc (suc zero))) k = offset_is shift h
     each (suc (suc (suc (suc n)))) k = absurd (omega arith)
+
+pub are_faces : AreCoordinates (ratio ∷ ratio ∷ [])
+are_faces = record { some = omega arith; few = omega arith; each = each }
+  where
+    each : (n : ℕ) → n < 2 → IsCoordinate (coordinate_at (ratio ∷ ratio ∷ []) n)
+    each zero k = ratio_is
+    each (suc zero) k = ratio_is
+    each (suc (suc n)) k = absurd (omega arith)
 
 pub are_circles : (shift : ℕ) → shift ≤ 28 → AreCoordinates (circles shift)
 are_circles shift h = record { some = omega arith; few = omega arith; each = each }
@@ -236,7 +244,7 @@ offset_ranged shift s x h = about_holds (pos 0) (shift + 16) s (pos (2 ^ 16) *�
     sized w k = omega (arith, ints)
 
 -- an entry is one of three
-by_axis : (m : ℕ) (n : V3) (P : ℤ → Type 0) → P n.x → P n.y → P n.z → P (entry m n)
+pub by_axis : (m : ℕ) (n : V3) (P : ℤ → Type 0) → P n.x → P n.y → P n.z → P (entry m n)
 by_axis m n P f g h = choose (m == 1) (m == 2)
   where
     choose : (u v : Bool) → P (if u then n.x else (if v then n.y else n.z))

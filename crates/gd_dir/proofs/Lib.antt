@@ -1,4 +1,5 @@
 pub mod Enclosure
+pub mod Candidates
 pub mod FormCells
 pub mod Halves
 mod KnownValues

@@ -1,11 +1,13 @@
 -- The boxes of directions and offsets of a form's cells, and what the cells cover.
 use Rattle.std.specs.Prelude.{ℕ, ℤ, pos, suc, ◌+◌, ◌*◌, ◌^◌, ◌≤◌, ◌<◌, ◌≡◌, ◌==◌, ◌⊎◌, ◌<ℤ◌, if◌then◌else◌}
+use Rattle.gd_base.specs.Limits.{LARGE_SHIFT}
 use Rattle.gd_cells.specs.Grid.{cell_of}
 use Rattle.gd_cells.specs.declared.cell.Cell.{Cell}
 use Rattle.gd_dir.specs.Boxes.{HoldsDirection, HoldsOffset, ORIGIN, box_of, direction_of}
 use Rattle.gd_dir.specs.Covers.{IsPart}
 use Rattle.gd_dir.specs.Directions.{LeadsAlong, entry}
-use Rattle.gd_dir.specs.Forms.{FormLiesIn, IsCandidate, IsNear, PassesWithin, cells_of, coordinates_of, leading_axis, ratio}
+use Rattle.gd_dir.specs.Forms.{FormLiesIn, IsCandidate, IsNear, PassesWithin, cells_of, coordinates_of, leading_axis}
+use Rattle.gd_dir.specs.Forms.{ratio}
 use Rattle.gd_dir.specs.declared.shape.DirBox.{DirBox}
 use Rattle.gd_dir.specs.declared.shape.FormShape.{FormShape}
 use Rattle.gd_dir.specs.declared.shape.FormShape.TheVariants.{Flat, Line, Circle, Cylinder}
@@ -20,12 +22,19 @@ offset_at axis a b =
     if axis == 1 then record { x = pos 0; y = a; z = b }
     else (if axis == 2 then record { x = a; y = pos 0; z = b } else record { x = a; y = b; z = pos 0 })
 
--- two ratios of a line or a cylinder at the axes other than the root's, without offsets
+-- the ends of a ratio's box in a cell of a line or a cylinder
+abbrev pub low_ratio : ℕ → Cell → ℤ
+low_ratio n c = low_after ratio (turns 4 n c.level) (index_at n c)
+
+abbrev pub high_ratio : ℕ → Cell → ℤ
+high_ratio n c = high_after ratio (turns 4 n c.level) (index_at n c)
+
+-- the box of both ratios at the axes other than the root's, without offsets
 abbrev pub ratios_box : Cell → DirBox
 ratios_box c = record {
   lead = c.root;
-  lo = direction_of c.root (low_after ratio (turns 4 0 c.level) (index_at 0 c)) (low_after ratio (turns 4 1 c.level) (index_at 1 c));
-  hi = direction_of c.root (high_after ratio (turns 4 0 c.level) (index_at 0 c)) (high_after ratio (turns 4 1 c.level) (index_at 1 c));
+  lo = direction_of c.root (low_ratio 0 c) (low_ratio 1 c);
+  hi = direction_of c.root (high_ratio 0 c) (high_ratio 1 c);
   offset_lo = ORIGIN;
   offset_hi = ORIGIN;
 }
@@ -76,10 +85,15 @@ OffsetIsHeld Cylinder b s o = HoldsOffset b s o
 
 -- the box holds the direction and the offset of every candidate that lies in the cell
 abbrev pub EnclosesForm : FormShape → V3 → ℕ → DirBox → Cell → Type 0
-EnclosesForm shape d shift b c = (axis : ℕ) (n : V3) (s : ℤ) (o : V3) → IsCandidate shape d axis n s o → FormLiesIn shape shift c axis n s o
+EnclosesForm shape d shift b c = (axis : ℕ) (n : V3) (s : ℤ) (o : V3) → IsCandidate shape d axis n s o
+    → FormLiesIn shape shift c axis n s o
     → HoldsDirection b (lead_of shape axis n) n × OffsetIsHeld shape b s o
 
 -- ---- what the cells cover
+-- the cell of a form by its root, its level and its path
+abbrev pub form_cell : FormShape → ℕ → ℕ → ℕ → ℕ → Cell
+form_cell shape shift root level path = cell_of (cells_of shape shift) root level path
+
 -- the root in which a candidate lies: that of its axis, but a circle has one root
 abbrev pub root_of : FormShape → ℕ → ℕ
 root_of Flat axis = axis
@@ -89,20 +103,28 @@ root_of Cylinder axis = axis
 
 -- every candidate whose offset is within 2^shift units lies in a root
 abbrev pub FormRootsCover : Type 0
-FormRootsCover = (shape : FormShape) (d : V3) (shift axis : ℕ) (n : V3) (s : ℤ) (o : V3) → IsCandidate shape d axis n s o → IsNear shift s o
-    → FormLiesIn shape shift (cell_of (cells_of shape shift) (root_of shape axis) 0 0) axis n s o
+FormRootsCover = (shape : FormShape) (d : V3) (shift axis : ℕ) (n : V3) (s : ℤ) (o : V3)
+    → IsCandidate shape d axis n s o → IsNear shift s o
+    → FormLiesIn shape shift (form_cell shape shift (root_of shape axis) 0 0) axis n s o
 
 -- a candidate that lies in a cell lies in one of its halves
 abbrev pub FormHalvesCover : Type 0
-FormHalvesCover = (shape : FormShape) (shift root level path axis : ℕ) (n : V3) (s : ℤ) (o : V3) → shift ≤ 28 → level < (cells_of shape shift).finest
-    → FormLiesIn shape shift (cell_of (cells_of shape shift) root level path) axis n s o
-    → (FormLiesIn shape shift (cell_of (cells_of shape shift) root (suc level) (2 * path)) axis n s o) ⊎ (FormLiesIn shape shift (cell_of (cells_of shape shift) root (suc level) (2 * path + 1)) axis n s o)
+FormHalvesCover = (shape : FormShape) (shift root level path axis : ℕ) (n : V3) (s : ℤ) (o : V3) → shift ≤ LARGE_SHIFT
+    → level < (cells_of shape shift).finest
+    → FormLiesIn shape shift (form_cell shape shift root level path) axis n s o
+    → (FormLiesIn shape shift (form_cell shape shift root (suc level) (2 * path)) axis n s o)
+    ⊎ (FormLiesIn shape shift (form_cell shape shift root (suc level) (2 * path + 1)) axis n s o)
 
 -- the boxes of both halves of a cell lie in the cell's box
 abbrev pub FormBoxesNest : Type 0
-FormBoxesNest = (shape : FormShape) (d : V3) (shift root level path side : ℕ) → shift ≤ 28 → 1 ≤ root → root ≤ 3 → level < (cells_of shape shift).finest → side < 2
-    → IsPart (form_box shape d shift (cell_of (cells_of shape shift) root (suc level) (2 * path + side))) (form_box shape d shift (cell_of (cells_of shape shift) root level path))
+FormBoxesNest = (shape : FormShape) (d : V3) (shift root level path side : ℕ) → shift ≤ LARGE_SHIFT
+    → 1 ≤ root → root ≤ 3
+    → level < (cells_of shape shift).finest → side < 2
+    → IsPart (form_box shape d shift (form_cell shape shift root (suc level) (2 * path + side)))
+    (form_box shape d shift (form_cell shape shift root level path))
 
--- a line that passes within t / 2 of the origin has its point, where it crosses the plane through the origin and across the leading axis, within t of the origin: so the range of offsets loses no line
+-- a line that passes within t / 2 of the origin has its point, where it crosses the plane through the origin and
+-- across the leading axis, within t of the origin: so the range of offsets loses no line
 abbrev pub NoLineIsLost : Type 0
-NoLineIsLost = (axis t shift : ℕ) (n : V3) (s : ℤ) (o : V3) → 1 ≤ axis → axis ≤ 3 → LeadsAlong axis n → pos 0 <ℤ s → entry axis o ≡ pos 0 → t ≤ 2 ^ shift → PassesWithin t n s o → IsNear shift s o
+NoLineIsLost = (axis t shift : ℕ) (n : V3) (s : ℤ) (o : V3) → 1 ≤ axis → axis ≤ 3 → LeadsAlong axis n → pos 0 <ℤ s
+    → entry axis o ≡ pos 0 → t ≤ 2 ^ shift → PassesWithin t n s o → IsNear shift s o

@@ -1,6 +1,8 @@
 -- The forms by their grids: the coordinates of each form, and the candidates that lie in a cell.
--- A candidate is an axis, a direction that leads along it, and the offset o / s of a line's point, in units, which is 0 along the axis.
-use Rattle.std.specs.Prelude.{ℕ, ℤ, pos, ◌+◌, ◌^◌, ◌≤◌, ◌≡◌, ◌&&◌, ◌*ℤ◌, ◌+ℤ◌, ◌-ℤ◌, ◌≤ℤ◌, ◌<ℤ◌, nat_le, unsigned_abs, List, [], ◌∷◌, if◌then◌else◌}
+-- A candidate is an axis, a direction that leads along it, and the offset o / s of a line's point, in units, which is
+-- 0 along the axis.
+use Rattle.std.specs.Prelude.{ℕ, ℤ, pos, ◌+◌, ◌^◌, ◌≤◌, ◌≡◌, ◌&&◌, ◌*ℤ◌, ◌+ℤ◌, ◌-ℤ◌, ◌≤ℤ◌, ◌<ℤ◌, nat_le, unsigned_abs}
+use Rattle.std.specs.Prelude.{List, [], ◌∷◌, if◌then◌else◌}
 use Rattle.gd_cells.specs.Grid.{Grid}
 use Rattle.gd_cells.specs.declared.cell.Cell.{Cell}
 use Rattle.gd_dir.specs.Directions.{LeadsAlong, LiesIn, entry, first_other, second_other}
@@ -46,7 +48,8 @@ ratio_to lead x = record { under = lead; value = pos (2 ^ 30) *ℤ x }
 abbrev pub fine : ℤ → ℤ → Fraction
 fine s x = record { under = s; value = pos (2 ^ 16) *ℤ x }
 
--- the numbers of a line or a cylinder: both ratios of its direction, then both offsets, each at the axes that don't lead, in ascending order
+-- the numbers of a line or a cylinder: both ratios of its direction, then both offsets, each at the axes that don't
+-- lead, in ascending order
 abbrev pub line_numbers : ℕ → V3 → ℤ → V3 → List Fraction
 line_numbers axis n s o =
     ratio_to (entry axis n) (entry (first_other axis) n) ∷ ratio_to (entry axis n) (entry (second_other axis) n)
@@ -65,7 +68,8 @@ pub record LineLiesIn (shape : FormShape) (shift : ℕ) (c : Cell) (axis : ℕ) 
 abbrev pub FormLiesIn : FormShape → ℕ → Cell → ℕ → V3 → ℤ → V3 → Type 0
 FormLiesIn Flat shift c axis n s o = LiesIn c axis n
 FormLiesIn Line shift c axis n s o = LineLiesIn Line shift c axis n s o
-FormLiesIn Circle shift c axis n s o = LieIn (cells_of Circle shift) (coordinates_of Circle shift) (circle_numbers axis s o) c
+FormLiesIn Circle shift c axis n s o =
+    LieIn (cells_of Circle shift) (coordinates_of Circle shift) (circle_numbers axis s o) c
 FormLiesIn Cylinder shift c axis n s o = LineLiesIn Cylinder shift c axis n s o
 
 -- the first axis along which a direction has its greatest entry in size
@@ -96,12 +100,14 @@ pub record IsCandidate (shape : FormShape) (d : V3) (axis : ℕ) (n : V3) (s : �
   pub offset : entry axis o ≡ pos 0
 
 -- ---- lines
--- twice the distance between a point at o / s and the line along n through the origin is at most t: stated by squares, times the squares of s and of n's length
+-- twice the distance between a point at o / s and the line along n through the origin is at most t: stated by
+-- squares, times the squares of s and of n's length
 abbrev pub square : ℤ → ℤ
 square z = z *ℤ z
 
 abbrev pub crossed : V3 → V3 → ℤ
-crossed n o = square (n.y *ℤ o.z -ℤ n.z *ℤ o.y) +ℤ square (n.z *ℤ o.x -ℤ n.x *ℤ o.z) +ℤ square (n.x *ℤ o.y -ℤ n.y *ℤ o.x)
+crossed n o =
+    square (n.y *ℤ o.z -ℤ n.z *ℤ o.y) +ℤ square (n.z *ℤ o.x -ℤ n.x *ℤ o.z) +ℤ square (n.x *ℤ o.y -ℤ n.y *ℤ o.x)
 
 abbrev pub PassesWithin : ℕ → V3 → ℤ → V3 → Type 0
 PassesWithin t n s o = (pos 4 *ℤ crossed n o) ≤ℤ (square (pos t *ℤ s) *ℤ (square n.x +ℤ square n.y +ℤ square n.z))

@@ -10,7 +10,8 @@ use crate::shape::DirBox;
 use gd_cells::Cell;
 use gd_vec::V3;
 
-/// The direction of two ratios in 2^-30 on the face of a root: 1 along the root's axis, and the ratios along the others in ascending order.
+/// The direction of two ratios in 2^-30 on the face of a root: 1 along the root's axis, and the ratios along the others
+/// in ascending order.
 #[inline]
 pub fn direction(root: u32, first: i64, second: i64) -> V3
     requires first_root { 1 ≤ root }

@@ -1,13 +1,13 @@
 // The boxes of the cells of each form.
-ghost use Rattle.std.specs.Prelude.{◌≡◌, ◌≤◌, ◌^◌, get_or, unsigned_abs};
+ghost use Rattle.std.specs.Prelude.{◌≡◌, ◌≤◌, ◌^◌, unsigned_abs};
 ghost use Rattle.gd_base.specs.Limits.{LARGE_SHIFT};
 ghost use Rattle.gd_cells.specs.Grid.{IsCell};
 ghost use Rattle.gd_dir.specs.Boxes.{IsBox};
-ghost use Rattle.gd_dir.specs.FormBoxes.{EnclosesForm, circle_box, form_box, line_box, offset_at, ratios_box};
+ghost use Rattle.gd_dir.specs.FormBoxes.{EnclosesForm, circle_box, form_box, high_ratio, line_box, low_ratio};
+ghost use Rattle.gd_dir.specs.FormBoxes.{offset_at, ratios_box};
 ghost use Rattle.gd_dir.specs.Forms.{cells_of, leading_axis, ratio};
 ghost use Rattle.gd_dir.specs.declared.shape.FormShape.TheVariants as form;
-ghost use Rattle.gd_grid.specs.Coordinates.{high_after, low_after};
-ghost use Rattle.gd_grid.specs.Turns.{HasBox, turns};
+ghost use Rattle.gd_grid.specs.Turns.{HasBox};
 ghost use Rattle.gd_vec.specs.Vector.{IsWithin};
 
 use crate::boxes::{ORIGIN, direction, face_box};
@@ -83,8 +83,8 @@ fn ratios_box(c: &Cell) -> DirBox
 #[inline]
 fn ratio_box(number: u32, c: &Cell) -> Ends
     requires { HasBox ratio number 4 c.now }
-    ensures lo { result.lo ≡ low_after ratio (turns 4 number c.now.level) (get_or c.now.index number 0) }
-    ensures hi { result.hi ≡ high_after ratio (turns 4 number c.now.level) (get_or c.now.index number 0) }
+    ensures lo { result.lo ≡ low_ratio number c.now }
+    ensures hi { result.hi ≡ high_ratio number c.now }
     ensures lo_size { unsigned_abs result.lo ≤ 2 ^ 30 }
     ensures hi_size { unsigned_abs result.hi ≤ 2 ^ 30 }
 {

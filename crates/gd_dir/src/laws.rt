@@ -1,7 +1,9 @@
 ghost use Rattle.gd_dir.specs.Covers.{BoxesNest, FacesCover, GridHasFaceCells, HalvesCover};
 ghost use Rattle.gd_dir.specs.FormBoxes.{FormBoxesNest, FormHalvesCover, FormRootsCover, NoLineIsLost};
+ghost use Rattle.gd_dir.specs.FormPlaces.{WitnessesAreCandidates};
 
-/// What the cells of three faces are: the cells of the grid, which cover every direction, and whose boxes lie within one another.
+/// What the cells of three faces are: the cells of the grid, which cover every direction, and whose boxes lie within
+/// one another.
 /// It does nothing when it runs; a proof cites its clauses.
 #[inline(always)]
 pub fn faces_cover()
@@ -20,4 +22,5 @@ pub fn forms_cover()
     ensures halves { FormHalvesCover }
     ensures boxes { FormBoxesNest }
     ensures lines { NoLineIsLost }
+    ensures places { WitnessesAreCandidates }
 {}

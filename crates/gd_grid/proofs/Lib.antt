@@ -4,6 +4,7 @@ pub mod Halves
 pub mod InTurn
 mod KnownValues
 pub mod Middles
+pub mod Numbers
 pub mod Ranges
 pub mod Steps
 pub mod Widths

@@ -40,3 +40,10 @@ about_size centre bits m lo hi mid h b = sized (2 ^ bits) (high (about centre bi
   where
     sized : (w : ℕ) (end : ℤ) → unsigned_abs centre + w ≤ m → end ≡ centre +ℤ pos w → (centre -ℤ pos w) ≤ℤ lo → hi ≤ℤ end → lo ≤ℤ mid → mid ≤ℤ hi → (unsigned_abs lo ≤ m) × (unsigned_abs hi ≤ m)
     sized w end h e f g i j = (omega (arith, ints, e), omega (arith, ints, e))
+
+-- a number in the range is no further from the centre than 2^bits
+pub within_about : (centre : ℤ) (bits : ℕ) (x : ℤ) → ((about centre bits).low ≤ℤ x) × (x ≤ℤ high (about centre bits)) → unsigned_abs (x -ℤ centre) ≤ 2 ^ bits
+within_about centre bits x h = sized (2 ^ bits) (high (about centre bits)) (high_about centre bits) h.0 h.1
+  where
+    sized : (w : ℕ) (end : ℤ) → end ≡ centre +ℤ pos w → (centre -ℤ pos w) ≤ℤ x → x ≤ℤ end → unsigned_abs (x -ℤ centre) ≤ w
+    sized w end e f g = omega (arith, ints, e)

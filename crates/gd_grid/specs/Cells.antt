@@ -1,5 +1,6 @@
 -- Fractions by the cells in which they lie, for any list of coordinates and any grid that halves them.
-use Rattle.std.specs.Prelude.{ℕ, ℤ, pos, ◌+◌, ◌<◌, ◌≡◌, ◌*ℤ◌, ◌≤ℤ◌, Bool, true, false, ◌&&◌, nat_le, int_le, List, [], ◌∷◌, length, get_or}
+use Rattle.std.specs.Prelude.{ℕ, ℤ, pos, ◌+◌, ◌<◌, ◌≡◌, ◌*ℤ◌, ◌≤ℤ◌, Bool, true, false, ◌&&◌, nat_le, int_le, List, []}
+use Rattle.std.specs.Prelude.{◌∷◌, length, get_or}
 use Rattle.gd_cells.specs.Grid.{Grid, halvings}
 use Rattle.gd_cells.specs.Witnesses.{witness_of, zeros_behind}
 use Rattle.gd_cells.specs.declared.cell.Cell.{Cell}
@@ -43,7 +44,8 @@ abbrev pub middle_in : List Coordinate → ℕ → Cell → ℤ
 middle_in ks n c = middle_after (coordinate_at ks n) (turns (length ks) n c.level) (index_at n c)
 
 -- ---- what lies in a box
--- value / under is no less than lo and no greater than hi, where under is positive: stated by products, so that nothing is rounded
+-- value / under is no less than lo and no greater than hi, where under is positive: stated by products, so that
+-- nothing is rounded
 abbrev pub IsBetween : ℤ → ℤ → ℤ → ℤ → Type 0
 IsBetween lo hi under value = ((lo *ℤ under) ≤ℤ value) × (value ≤ℤ (hi *ℤ under))
 
@@ -65,9 +67,14 @@ LieIn g ks vs c = (n : ℕ) → n < length ks → InBox g ks vs n c
 
 -- fractions are in range: each lies in the range of its coordinate
 abbrev pub AreInRange : List Coordinate → List Fraction → Type 0
-AreInRange ks vs = (n : ℕ) → n < length ks → IsBetween (coordinate_at ks n).low (high (coordinate_at ks n)) (fraction_at vs n).under (fraction_at vs n).value
+AreInRange ks vs = (n : ℕ) → n < length ks
+    → IsBetween (coordinate_at ks n).low (high (coordinate_at ks n)) (fraction_at vs n).under (fraction_at vs n).value
 
 -- ---- places of the grid
+-- the number of a witness at a place, from 0
+abbrev pub number_at : ℕ → Witness → ℤ
+number_at n w = get_or w.at n (pos 0)
+
 -- the middles of a cell's boxes, from the coordinate with a number on
 abbrev pub middles_from : Grid → Cell → ℕ → List Coordinate → List ℤ
 middles_from g c n [] = []
@@ -89,4 +96,5 @@ are_in_range (k ∷ ks) (x ∷ xs) = (int_le k.low x && int_le x (high k)) && ar
 
 -- a witness names one of so many roots, its numbers are in range, and 0 stands after them
 abbrev pub is_in_range : ℕ → List Coordinate → Witness → Bool
-is_in_range roots ks w = nat_le 1 w.root && (nat_le w.root roots && (are_in_range ks w.at && zeros_behind (length ks) w))
+is_in_range roots ks w =
+    nat_le 1 w.root && (nat_le w.root roots && (are_in_range ks w.at && zeros_behind (length ks) w))

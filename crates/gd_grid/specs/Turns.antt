@@ -1,5 +1,6 @@
 -- Grids whose coordinates are halved in turn: first each of them once, then each a second time, and on.
-use Rattle.std.specs.Prelude.{ℕ, ◌+◌, ◌*◌, ◌-◌, ◌/◌, ◌%◌, ◌^◌, ◌≤◌, ◌<◌, min, nat_lt, List, [], ◌∷◌, length, get_or, if◌then◌else◌}
+use Rattle.std.specs.Prelude.{ℕ, ◌+◌, ◌*◌, ◌-◌, ◌/◌, ◌%◌, ◌^◌, ◌≤◌, ◌<◌, min, nat_lt, List, [], ◌∷◌, length, get_or}
+use Rattle.std.specs.Prelude.{if◌then◌else◌}
 use Rattle.gd_cells.specs.Grid.{Grid, MOST_DIMS}
 use Rattle.gd_cells.specs.declared.cell.Cell.{Cell}
 use Rattle.gd_grid.specs.Coordinates.{IsCoordinate}
@@ -24,7 +25,13 @@ full_turns (k ∷ ks) = min (k.bits - 1) (full_turns ks)
 
 -- the grid of some roots and coordinates
 abbrev pub grid_of : ℕ → List Coordinate → Grid
-grid_of roots ks = record { roots = roots; dims = length ks; numbers = length ks; finest = length ks * full_turns ks; steps = in_turn (length ks) }
+grid_of roots ks = record {
+  roots = roots;
+  dims = length ks;
+  numbers = length ks;
+  finest = length ks * full_turns ks;
+  steps = in_turn (length ks);
+}
 
 -- a coordinate has a box in a cell: it can be halved once more, and the cell's index counts boxes of that size
 pub record HasBox (k : Coordinate) (number dims : ℕ) (c : Cell) : Type 0 where

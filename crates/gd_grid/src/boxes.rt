@@ -7,7 +7,8 @@ use crate::coordinate::{Coordinate, Ends, power};
 use crate::turns::halvings_in_turn;
 use gd_cells::Cell;
 
-/// The box of a coordinate in a cell, where `dims` coordinates are halved in turn. `number` is the coordinate's, from 0.
+/// The box of a coordinate in a cell, where `dims` coordinates are halved in turn. `number` is the coordinate's, from
+/// 0.
 #[inline]
 pub fn coordinate_box(k: &Coordinate, number: u32, dims: u32, c: &Cell) -> Ends
     requires { HasBox k.now number dims c.now }

@@ -2,7 +2,8 @@
 ghost use Rattle.std.specs.Prelude.{◌≡◌, ◌≤◌, ◌^◌, unsigned_abs};
 ghost use Rattle.gd_grid.specs.Coordinates.{about};
 
-/// What a coordinate of a grid runs through: from `low` on, 2^bits wide, both ends included. It has the scale of what it
+/// What a coordinate of a grid runs through: from `low` on, 2^bits wide, both ends included. It has the scale of what
+/// it
 /// stands for: ratios are in 2^-30, and lengths in fine units of 2^-16 unit (docs/UNITS.md).
 #[derive(Clone, Copy, Debug, PartialEq, Eq)]
 pub struct Coordinate {

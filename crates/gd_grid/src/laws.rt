@@ -1,8 +1,11 @@
-ghost use Rattle.gd_grid.specs.Laws.{BoxesAreInRange, BoxesInTurn, BoxesNest, CellsHaveBoxes, CentresAreInRange, CoordinatesMakeGrid};
-ghost use Rattle.gd_grid.specs.Laws.{HalvesCover, OthersStay, RootsCover, TurnsAreHalvings};
+ghost use Rattle.gd_grid.specs.Laws.{BoxesAreInRange, BoxesInTurn, BoxesNest, CellsHaveBoxes, CentresAreInRange};
+ghost use Rattle.gd_grid.specs.Laws.{CoordinatesMakeGrid};
+ghost use Rattle.gd_grid.specs.Laws.{HalvesCover, InRangeMeans, OthersStay, RootsCover, TurnsAreHalvings};
 
-/// What the boxes of cells are, for every list of coordinates and every grid that halves them: the roots cover the range,
-/// the halves of a cell cover it, their boxes lie in its boxes, and centres are in range. It does nothing when it runs; a
+/// What the boxes of cells are, for every list of coordinates and every grid that halves them: the roots cover the
+/// range,
+/// the halves of a cell cover it, their boxes lie in its boxes, and centres are in range. It does nothing when it
+/// runs; a
 /// proof cites its clauses.
 #[inline(always)]
 pub fn cells_cover()
@@ -16,4 +19,5 @@ pub fn cells_cover()
     ensures nest { BoxesNest }
     ensures range { BoxesAreInRange }
     ensures centres { CentresAreInRange }
+    ensures places { InRangeMeans }
 {}

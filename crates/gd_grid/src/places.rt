@@ -13,7 +13,8 @@ use gd_cells::{Cell, MOST_DIMS, Witness, zeros_behind};
 /// Each coordinate may be halved so often at most: more than any grid needs, and few enough for 64 bits.
 const MOST_HALVINGS: u32 = 60;
 
-/// Whether a witness names one of `roots` roots, its numbers lie in the ranges of their coordinates, both ends included,
+/// Whether a witness names one of `roots` roots, its numbers lie in the ranges of their coordinates, both ends
+/// included,
 /// and 0 stands after them.
 pub fn is_in_range(roots: u32, ks: &[Coordinate], w: &Witness) -> bool
     requires coordinates { AreCoordinates ks.now }
@@ -22,7 +23,8 @@ pub fn is_in_range(roots: u32, ks: &[Coordinate], w: &Witness) -> bool
     1 <= w.root && w.root <= roots && are_in_range(ks, &w.at) && zeros_behind(w, ks.len())
 }
 
-/// The finest level of the grid of some coordinates that are halved in turn: there the narrowest is 2 wide, and each was
+/// The finest level of the grid of some coordinates that are halved in turn: there the narrowest is 2 wide, and each
+/// was
 /// halved as often.
 pub fn finest_level(ks: &[Coordinate]) -> u32
     requires coordinates { AreCoordinates ks.now }

@@ -2,7 +2,8 @@
 ghost use Rattle.std.specs.Prelude.{◌≡◌, ◌<◌, ◌≤◌};
 ghost use Rattle.gd_grid.specs.Turns.{turns};
 
-/// How often the first `level` steps halve a coordinate, by its number from 0, where `dims` coordinates are halved in turn.
+/// How often the first `level` steps halve a coordinate, by its number from 0, where `dims` coordinates are halved in
+/// turn.
 /// Each full turn halves it once, and so did the turn that isn't full where it has passed the coordinate.
 #[inline]
 pub fn halvings_in_turn(dims: u32, number: u32, level: u32) -> u32

@@ -51,7 +51,7 @@ square_size : (lead : ℤ) → lead *ℤ lead ≡ pos (unsigned_abs lead * unsig
 square_size (pos n) = refl
 square_size (negsuc n) = refl
 
-powers : (k : ℕ) → k ≤ 20 → 2 ^ 30 ≡ 2 ^ (30 - k) * 2 ^ k
+pub powers : (k : ℕ) → k ≤ 20 → 2 ^ 30 ≡ 2 ^ (30 - k) * 2 ^ k
 powers k h = let e : 30 - k + k ≡ 30 = omega (arith, h) in ap (λ n. 2 ^ n) (sym e) ∙ pow-add 2 (30 - k) k
 
 pub ratio_ranged : (turn : TurnRange) (lead x : ℤ) → turn_of turn ≤ 20 → IsRatioOf (turn_of turn) lead x → IsBetween (ratio turn).low (high (ratio turn)) (ratio_to lead x).under (ratio_to lead x).value

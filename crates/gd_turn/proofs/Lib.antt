@@ -1,3 +1,4 @@
+pub mod Assignments
 pub mod Coordinates
 pub mod Covers
 pub mod Holds

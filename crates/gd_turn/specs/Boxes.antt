@@ -33,9 +33,12 @@ turn_ends face a b d =
     else (if face == 2 then record { q0 = a; q1 = b; q2 = alone (pos (2 ^ 30)); q3 = d }
     else record { q0 = a; q1 = b; q2 = d; q3 = alone (pos (2 ^ 30)) }))
 
+abbrev pub turn_ends_in : Ranges → Cell → RotationEnds
+turn_ends_in r c = turn_ends (face_of r.turn c.root) (ends_in r c 0) (ends_in r c 1) (ends_in r c 2)
+
 -- the box of a cell, by its ends
 pub record IsBoxOf (r : Ranges) (c : Cell) (b : CellBox) : Type 0 where
-  pub turn : rotation_ends b.turn ≡ turn_ends (face_of r.turn c.root) (ends_in r c 0) (ends_in r c 1) (ends_in r c 2)
+  pub turn : rotation_ends b.turn ≡ turn_ends_in r c
   pub shift : vector_ends b.shift ≡ three_from r c 3
   pub first : vector_ends b.first ≡ offset_ends r c 1
   pub second : vector_ends b.second ≡ offset_ends r c 2
@@ -65,7 +68,8 @@ pub record IsPart (a b : CellBox) : Type 0 where
   pub first : VectorInside a.first b.first
   pub second : VectorInside a.second b.second
 
--- an entry of an image, less the width of the translation's entry and 2 for the rounding, is at most as wide as 12 w + 2 times the sum of v's sizes over 2^14
+-- an entry of an image, less the width of the translation's entry and 2 for the rounding, is at most as wide as 12 w
+-- + 2 times the sum of v's sizes over 2^14
 pub record ImageWidth (w : ℕ) (v : V3) (shift r : VecBox) : Type 0 where
   pub x : ((width_of r.x -ℤ width_of shift.x -ℤ pos 2) *ℤ pos (2 ^ 14)) ≤ℤ (pos (12 * w + 2) *ℤ norm_sum_of v)
   pub y : ((width_of r.y -ℤ width_of shift.y -ℤ pos 2) *ℤ pos (2 ^ 14)) ≤ℤ (pos (12 * w + 2) *ℤ norm_sum_of v)

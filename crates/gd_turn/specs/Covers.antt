@@ -10,29 +10,38 @@ use Rattle.gd_turn.specs.Ranges.{AreRanges, IsInRange, LiesIn, cells_of, coordin
 use Rattle.gd_turn.specs.declared.ranges.CellBox.{CellBox}
 use Rattle.gd_turn.specs.declared.ranges.Ranges.{Ranges}
 
+-- the cell of ranges by its root, its level and its path
+abbrev pub turn_cell : Ranges → ℕ → ℕ → ℕ → Cell
+turn_cell r root level path = cell_of (cells_of r) root level path
+
 -- a placement that is in range lies in a root
 pub record HasRoot (r : Ranges) (p : Placement) : Type 0 where
   pub root : ℕ
   pub first : 1 ≤ root
   pub last : root ≤ roots_of r.turn
-  pub lies : LiesIn r (cell_of (cells_of r) root 0 0) p
+  pub lies : LiesIn r (turn_cell r root 0 0) p
 
 abbrev pub RootsCover : Type 0
 RootsCover = (r : Ranges) (p : Placement) → AreRanges r → IsPlacement p → IsInRange r p → HasRoot r p
 
 -- a placement that lies in a cell lies in one of its halves
 abbrev pub HalvesCover : Type 0
-HalvesCover = (r : Ranges) (p : Placement) (root level path : ℕ) → AreRanges r → level < (cells_of r).finest → LiesIn r (cell_of (cells_of r) root level path) p
-    → (LiesIn r (cell_of (cells_of r) root (suc level) (2 * path)) p) ⊎ (LiesIn r (cell_of (cells_of r) root (suc level) (2 * path + 1)) p)
+HalvesCover = (r : Ranges) (p : Placement) (root level path : ℕ) → AreRanges r → level < (cells_of r).finest
+    → LiesIn r (turn_cell r root level path) p
+    → (LiesIn r (turn_cell r root (suc level) (2 * path)) p)
+    ⊎ (LiesIn r (turn_cell r root (suc level) (2 * path + 1)) p)
 
 -- the boxes of both halves of a cell lie in the cell's box
 abbrev pub BoxesNest : Type 0
-BoxesNest = (r : Ranges) (root level path side : ℕ) (a b : CellBox) → AreRanges r → 1 ≤ root → root ≤ roots_of r.turn → level < (cells_of r).finest → side < 2
-    → IsBoxOf r (cell_of (cells_of r) root (suc level) (2 * path + side)) a → IsBoxOf r (cell_of (cells_of r) root level path) b → IsPart a b
+BoxesNest = (r : Ranges) (root level path side : ℕ) (a b : CellBox) → AreRanges r → 1 ≤ root → root ≤ roots_of r.turn
+    → level < (cells_of r).finest → side < 2
+    → IsBoxOf r (turn_cell r root (suc level) (2 * path + side)) a
+    → IsBoxOf r (turn_cell r root level path) b → IsPart a b
 
 -- the cells are those of a grid, and the centre of each is in range
 abbrev pub CellsMakeGrid : Type 0
 CellsMakeGrid = (r : Ranges) → AreRanges r → IsGrid (cells_of r)
 
 abbrev pub CentresAreInRange : Type 0
-CentresAreInRange = (r : Ranges) (c : Cell) → AreRanges r → IsCell (cells_of r) c → is_in_range (roots_of r.turn) (coordinates_of r) (centre_of (cells_of r) (coordinates_of r) c) ≡ true
+CentresAreInRange = (r : Ranges) (c : Cell) → AreRanges r → IsCell (cells_of r) c
+    → is_in_range (roots_of r.turn) (coordinates_of r) (centre_of (cells_of r) (coordinates_of r) c) ≡ true

@@ -1,3 +1,4 @@
 pub mod Boxes
 pub mod Covers
+pub mod Places
 pub mod Ranges

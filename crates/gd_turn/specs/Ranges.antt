@@ -1,5 +1,7 @@
--- Ranges of placements: which placements are in range, the coordinates of their grid, and the placements that lie in a cell.
-use Rattle.std.specs.Prelude.{ℕ, zero, suc, ℤ, pos, ◌+◌, ◌*◌, ◌-◌, ◌^◌, ◌≤◌, ◌<◌, ◌≡◌, ◌==◌, ◌-ℤ◌, ◌*ℤ◌, ◌<ℤ◌, nat_le, unsigned_abs, List, [], ◌∷◌, if◌then◌else◌}
+-- Ranges of placements: which placements are in range, the coordinates of their grid, and the placements that lie in
+-- a cell.
+use Rattle.std.specs.Prelude.{ℕ, zero, suc, ℤ, pos, ◌+◌, ◌*◌, ◌-◌, ◌^◌, ◌≤◌, ◌<◌, ◌≡◌, ◌==◌, ◌-ℤ◌, ◌*ℤ◌, ◌<ℤ◌, nat_le}
+use Rattle.std.specs.Prelude.{unsigned_abs, List, [], ◌∷◌, if◌then◌else◌}
 use Rattle.gd_base.specs.Limits.{LARGE_COORDINATE, LARGE_SHIFT, TURN}
 use Rattle.gd_cells.specs.Grid.{Grid}
 use Rattle.gd_cells.specs.declared.cell.Cell.{Cell}
@@ -48,7 +50,8 @@ pub record IsNear (shift scale : ℕ) (centre v : V3) : Type 0 where
 abbrev pub ORIGIN : V3
 ORIGIN = record { x = pos 0; y = pos 0; z = pos 0 }
 
--- a placement is in range: its rotation, its translation and its offsets are, and an offset that the ranges don't have is 0
+-- a placement is in range: its rotation, its translation and its offsets are, and an offset that the ranges don't
+-- have is 0
 pub record IsInRange (r : Ranges) (p : Placement) : Type 0 where
   pub turn : IsTurnInRange r.turn p.turn
   pub shift : IsNear r.shift p.scale r.centre p.shift

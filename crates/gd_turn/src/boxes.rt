@@ -4,7 +4,8 @@ ghost use Rattle.gd_base.specs.Limits.{LARGE_COORDINATE, LARGE_SHIFT, TURN};
 ghost use Rattle.gd_cells.specs.Grid.{IsCell};
 ghost use Rattle.gd_grid.specs.Cells.{coordinate_at};
 ghost use Rattle.gd_quat.specs.Formulas.{ends, rotation_ends, vector_ends};
-ghost use Rattle.gd_turn.specs.Boxes.{EnclosesPlacements, IsBoxOf, IsCellBox, ends_in, offset_ends, three_from, turn_ends};
+ghost use Rattle.gd_turn.specs.Boxes.{EnclosesPlacements, IsBoxOf, IsCellBox, ends_in, offset_ends, three_from};
+ghost use Rattle.gd_turn.specs.Boxes.{turn_ends, turn_ends_in};
 ghost use Rattle.gd_turn.specs.Ranges.{AreRanges, cells_of, coordinates_of, face_of, length_about, ratio, turn_of};
 
 use crate::ranges::{CellBox, Ranges, TurnRange};
@@ -55,7 +56,7 @@ fn box_of(r: &Ranges, c: &Cell) -> CellBox
 fn turn_box(r: &Ranges, c: &Cell) -> RotationBox
     requires ranges { AreRanges r.now }
     requires cell { IsCell (cells_of r.now) c.now }
-    ensures { rotation_ends result ≡ turn_ends (face_of r.now.turn c.now.root) (ends_in r.now c.now 0) (ends_in r.now c.now 1) (ends_in r.now c.now 2) }
+    ensures { rotation_ends result ≡ turn_ends_in r.now c.now }
 {
     let first = interval(r, 0, c);
     let second = interval(r, 1, c);
@@ -65,7 +66,7 @@ fn turn_box(r: &Ranges, c: &Cell) -> RotationBox
 
 // The component that leads in the cells of a root, from 0.
 #[inline]
-fn face_of(turn: TurnRange, root: u32) -> u32
+pub fn face_of(turn: TurnRange, root: u32) -> u32
     requires { 1 ≤ root }
     ensures { result ≡ face_of turn root }
 {

@@ -5,10 +5,12 @@ mod boxes;
 mod grid;
 mod images;
 mod laws;
+mod places;
 mod ranges;
 
 pub use boxes::cell_box;
 pub use grid::{centre_of, dims, finest_level, is_in_range, roots};
 pub use images::cell_image;
 pub use laws::placements_cover;
+pub use places::placement_at;
 pub use ranges::{CellBox, Ranges, TurnRange};

@@ -2,6 +2,7 @@ use Rattle.gd_grid.proofs.Centres.{boxes_in_range, centres_in_range}
 use Rattle.gd_grid.proofs.InTurn.{boxes_in_turn}
 use Rattle.gd_grid.proofs.Halves.{boxes_nest, halves_cover, others_stay, roots_cover}
 use Rattle.gd_grid.proofs.Grids.{cells_have_boxes, coordinates_make_grid, turns_are_halvings}
+use Rattle.gd_grid.proofs.Numbers.{in_range_means}
 use Rattle.gd_grid.proofs.laws.cells_cover.Goals as goal
 
 pub returns : goal.returns
@@ -16,4 +17,5 @@ returns c = record {
   nest = boxes_nest;
   range = boxes_in_range;
   centres = centres_in_range;
+  places = in_range_means;
 }
