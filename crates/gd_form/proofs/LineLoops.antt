@@ -4,7 +4,7 @@ use Rattle.std.proofs.lemmas.Bool.{cases_lt}
 use Rattle.std.proofs.lemmas.Int.{ints}
 use Rattle.std.specs.List.{All, find, list_all, list_any}
 use Rattle.std.specs.Prelude.{ℤ, pos, ◌*ℤ◌, int_le, int_lt, option_map}
-use Rattle.gd_form.proofs.AxisSound.{Place, and-right, place-of}
+use Rattle.gd_form.specs.Laws.AxisSound.{Place, and-right, place-of}
 use Rattle.gd_form.proofs.AxisSizes.{kept-large}
 use Rattle.gd_form.proofs.Sizes.{kept_wide}
 use Rattle.gd_form.specs.AxisTests.{is_inside, is_judged, is_outside, length2_of, line_evidence, line_holds, lower_ends, point_evidence, square_times, upper_ends, value_at}

@@ -4,8 +4,9 @@ use Rattle.std.proofs.lemmas.Int.{ints}
 use Rattle.std.proofs.lemmas.List.{get_or-map, length-map}
 use Rattle.std.proofs.lemmas.List.Elements.{All-nil}
 use Rattle.std.specs.Prelude.{ℤ, pos, ◌*ℤ◌, ◌≤ℤ◌}
-use Rattle.gd_form.specs.Axes.{Axis, HasRing, distance2, from_axis, square_of}
+use Rattle.gd_form.specs.Axes.{Axis, HasRing, distance2, square_of}
 use Rattle.gd_form.specs.FlatTests.{least, place_of}
+use Rattle.gd_form.specs.Laws.AxisHeld.{distance2-nonneg}
 use Rattle.gd_form.specs.Laws.Firsts.{above_least, least_at_place, least_inside}
 use Rattle.gd_form.specs.Zones.{HasRadius, RingHasRadius}
 use Rattle.gd_int.proofs.Comparisons.{RootAtMost-first}
@@ -14,10 +15,6 @@ use Rattle.gd_int.specs.Comparisons.{RootAtMost}
 use Rattle.gd_vec.specs.Vector.{norm2_of}
 use Rattle.gd_vec.specs.declared.vector.V3.{V3}
 use Rattle.gd_zone.proofs.Ordered.{norm2-nonneg}
-use Rattle.gd_zone.specs.Conditions.{cross}
-
-pub distance2-nonneg : (x : Axis) (a p : V3) → pos 0 ≤ℤ distance2 x a p
-distance2-nonneg x a p = norm2-nonneg (cross x.direction (from_axis x a p))
 
 pub square-nonneg : (t : ℕ) (x : Axis) → pos 0 ≤ℤ square_of t x
 square-nonneg t x =

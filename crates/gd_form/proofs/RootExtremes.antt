@@ -9,9 +9,9 @@ use Rattle.std.specs.Ordering.{int_eq}
 use Rattle.std.specs.Prelude.{ℤ, pos, negsuc, ◌-ℤ◌, ◌*ℤ◌, ◌≤ℤ◌, ◌<ℤ◌, int_le}
 use Rattle.gd_dir.specs.declared.shape.DirBox.{DirBox}
 use Rattle.gd_dir.specs.declared.shape.FormShape.{FormShape}
-use Rattle.gd_form.proofs.AxisHeld.{value-sign, value-top}
+use Rattle.gd_form.specs.Laws.AxisHeld.{value-sign, value-top}
 use Rattle.gd_form.proofs.AxisSizes.{distance2-size, kept-large}
-use Rattle.gd_form.proofs.AxisSound.{far-length, near-length}
+use Rattle.gd_form.specs.Laws.AxisSound.{far-length, near-length}
 use Rattle.gd_form.proofs.Sizes.{kept_wide}
 use Rattle.gd_form.proofs.Blocks.{NoneBefore, before_place}
 use Rattle.gd_form.proofs.Roots.{ceil-root-grows, ceil-root-is, floor-root-grows, floor-root-is}

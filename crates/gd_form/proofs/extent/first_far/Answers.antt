@@ -1,6 +1,6 @@
 use Rattle.std.proofs.Common.{arith, ◌≡◌, ◌<◌, ◌*ℤ◌, ◌+◌, subst, sym, true, false, int_le, length}
 use Rattle.gd_form.proofs.Blocks.{NoneBefore, none_more, place_is}
-use Rattle.gd_form.proofs.AxisSound.{near-length}
+use Rattle.gd_form.specs.Laws.AxisSound.{near-length}
 use Rattle.gd_form.proofs.RootExtremes.{distance-kept, distance2-kept, far-found, far-hit, far-miss, told}
 use Rattle.gd_form.proofs.Sizes.{kept_wide}
 use Rattle.gd_form.specs.AxisTests.{near_ends}

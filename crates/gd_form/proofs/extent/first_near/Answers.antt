@@ -1,6 +1,6 @@
 use Rattle.std.proofs.Common.{arith, ◌≡◌, ◌<◌, ◌*ℤ◌, ◌+◌, subst, sym, true, false, int_le, length}
 use Rattle.gd_form.proofs.Blocks.{NoneBefore, none_more, place_is}
-use Rattle.gd_form.proofs.AxisSound.{far-length}
+use Rattle.gd_form.specs.Laws.AxisSound.{far-length}
 use Rattle.gd_form.proofs.RootExtremes.{distance-kept, distance2-kept, near-found, near-hit, near-miss, told-within}
 use Rattle.gd_form.proofs.Sizes.{kept_wide}
 use Rattle.gd_form.specs.AxisTests.{far_ends}

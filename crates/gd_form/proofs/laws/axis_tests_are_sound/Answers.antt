@@ -1,5 +1,5 @@
-use Rattle.gd_form.proofs.AxisEvidence.{line-evidence-refutes, line-none-refutes, ring-evidence-refutes, ring-none-refutes}
-use Rattle.gd_form.proofs.AxisSound.{line-holds-is-sound, line-refuted-is-empty, ring-holds-is-sound, ring-refuted-is-empty}
+use Rattle.gd_form.specs.Laws.AxisEvidence.{line-evidence-refutes, line-none-refutes, ring-evidence-refutes, ring-none-refutes}
+use Rattle.gd_form.specs.Laws.AxisSound.{line-holds-is-sound, line-refuted-is-empty, ring-holds-is-sound, ring-refuted-is-empty}
 use Rattle.gd_form.proofs.laws.axis_tests_are_sound.Goals as goal
 
 pub returns : goal.returns

@@ -1,6 +1,6 @@
 use Rattle.std.proofs.Common.{◌≡◌, ◌∙◌, ap, pos, sym, cond, Some, None, true, false, arith}
 use Rattle.std.specs.Ordering.{is_gt}
-use Rattle.gd_form.proofs.AxisEvidence.{extremes-part}
+use Rattle.gd_form.specs.Laws.AxisEvidence.{extremes-part}
 use Rattle.gd_form.proofs.AxisSizes.{kept-large}
 use Rattle.gd_form.proofs.RootExtremes.{compared-as, distance-kept, distance2-kept, greatest-near, least-far}
 use Rattle.gd_form.proofs.Sizes.{kept_wide}

@@ -10,9 +10,8 @@ use Rattle.std.specs.Prelude.{ℤ, pos, ◌-ℤ◌, ◌*ℤ◌, ◌≤ℤ◌, �
 use Rattle.gd_cells.specs.declared.cell.Evidence.{Evidence}
 use Rattle.gd_dir.specs.declared.shape.DirBox.{DirBox}
 use Rattle.gd_dir.specs.declared.shape.FormShape.{FormShape}
-use Rattle.gd_form.proofs.AxisHeld.{length-inside, length-sign, length-top, value-inside, value-sign}
-use Rattle.gd_form.proofs.Pairs.{pair-holds, pair-out, point-holds, point-out}
-use Rattle.gd_form.proofs.Radius.{distance2-nonneg}
+use Rattle.gd_form.specs.Laws.AxisHeld.{distance2-nonneg, length-inside, length-sign, length-top, value-inside, value-sign}
+use Rattle.gd_form.specs.Laws.Pairs.{pair-holds, pair-out, point-holds, point-out}
 use Rattle.gd_form.specs.Axes.{IsInCylinder, IsNoFurther, distance2}
 use Rattle.gd_form.specs.AxisLaws.{LineHoldsIsSound, LineRefutedIsEmpty, RingHoldsIsSound, RingRefutedIsEmpty, points_at}
 use Rattle.gd_form.specs.AxisTests.{far_ends, is_inside, is_judged, is_outside, length2_of, lower_ends, near_ends, ring_parts, upper_ends, value_at, value_of}

@@ -9,7 +9,7 @@ use Rattle.std.specs.Prelude.{ℤ, pos, ◌-ℤ◌, ◌≤ℤ◌, option_map}
 use Rattle.gd_cells.specs.declared.cell.Evidence.{Evidence}
 use Rattle.gd_dir.specs.declared.shape.DirBox.{DirBox}
 use Rattle.gd_dir.specs.declared.shape.FormShape.{FormShape}
-use Rattle.gd_form.proofs.AxisSound.{Parted, Place, and-left, and-right, far-at, far-length, near-at, near-length, parted, place-of}
+use Rattle.gd_form.specs.Laws.AxisSound.{Parted, Place, and-left, and-right, far-at, far-length, near-at, near-length, parted, place-of}
 use Rattle.gd_form.specs.AxisLaws.{LineEvidenceRefutes, LineNoneRefutes, RingEvidenceRefutes, RingNoneRefutes}
 use Rattle.gd_form.specs.AxisTests.{far_ends, farthest_point, is_judged, is_outside, length2_of, line_refuted, near_ends, nearest_point, point_evidence, ring_parts, ring_refuted, value_at}
 use Rattle.gd_form.specs.FlatTests.{evidence_of, greatest, least, place_of}

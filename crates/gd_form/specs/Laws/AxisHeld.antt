@@ -21,6 +21,7 @@ use Rattle.gd_quat.proofs.Polynomials.{var, num, ◌⊕◌, ◌⊖◌, ◌⊗◌
 use Rattle.gd_quat.specs.Formulas.{Ends, VectorEnds, multiple, narrowed, product, square, sum}
 use Rattle.gd_quat.specs.Placements.{times}
 use Rattle.gd_vec.specs.Vector.{norm2_of}
+use Rattle.gd_zone.proofs.Ordered.{norm2-nonneg}
 use Rattle.gd_vec.specs.declared.vector.V3.{V3}
 use Rattle.gd_zone.specs.Conditions.{cross}
 use Rattle.gd_zone.specs.Values.{squares_of}
@@ -204,3 +205,6 @@ value-top shape b a p =
 
     three : (a b c : ℤ) → pos 0 ≤ℤ a → pos 0 ≤ℤ b → pos 0 ≤ℤ c → pos 0 ≤ℤ ((a +ℤ b) +ℤ c)
     three a b c h i j = omega (arith, ints)
+
+pub distance2-nonneg : (x : Axis) (a p : V3) → pos 0 ≤ℤ distance2 x a p
+distance2-nonneg x a p = norm2-nonneg (cross x.direction (from_axis x a p))
