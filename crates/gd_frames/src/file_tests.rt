@@ -1,4 +1,4 @@
-use crate::tests::{Told, answer};
+use crate::tests::told;
 use std::alloc::{AllocError, Global};
 use std::test::Fail;
 
@@ -168,16 +168,16 @@ frame = [
 #[test]
 fn whole_files(rt: HostRuntime) -> Result<(), Fail> {
     let cases = [
-        ("the least", SADDLE, LEAST, "", "", Told::Read(1, 0, 1)),
-        ("everything", BORE, EVERYTHING, "", "", Told::Read(2, 2, 2)),
-        ("circularity", CIRCLE, ROUND, "", "", Told::Read(1, 0, 1)),
+        ("the least", SADDLE, LEAST, "", "", "read 1 0 1"),
+        ("everything", BORE, EVERYTHING, "", "", "read 2 2 2"),
+        ("circularity", CIRCLE, ROUND, "", "", "read 1 0 1"),
         (
             "a plate",
             PLATE,
             "version = 1\nturn = 6\nshift = 14",
             POSITION,
             "",
-            Told::Read(7, 3, 1),
+            "read 7 3 1",
         ),
         (
             "a hole that is off",
@@ -185,7 +185,7 @@ fn whole_files(rt: HostRuntime) -> Result<(), Fail> {
             "version = 1\nturn = 20\nshift = 4",
             POSITION,
             "",
-            Told::Read(7, 3, 1),
+            "read 7 3 1",
         ),
         (
             "a base that touches twice",
@@ -193,7 +193,7 @@ fn whole_files(rt: HostRuntime) -> Result<(), Fail> {
             "version = 1\nturn = 6\nshift = 14",
             POSITION,
             "",
-            Told::Fault(29, 1, 3),
+            "29 1 3",
         ),
         (
             "at maximum material, the datum too",
@@ -201,7 +201,7 @@ fn whole_files(rt: HostRuntime) -> Result<(), Fail> {
             DATUM_HOLE,
             AT_MMC,
             "frame = [{name = 'm', kind = 'position', features = ['h'], tolerance = 10, material = 'mmc', datums = ['D(M)']}]",
-            Told::Read(2, 1, 1),
+            "read 2 1 1",
         ),
         (
             "at maximum material",
@@ -209,7 +209,7 @@ fn whole_files(rt: HostRuntime) -> Result<(), Fail> {
             DATUM_HOLE,
             AT_MMC,
             "frame = [{name = 'm', kind = 'position', features = ['h'], tolerance = 10, material = 'mmc', datums = ['D']}]",
-            Told::Read(2, 1, 1),
+            "read 2 1 1",
         ),
         (
             "a tolerance that is wider than the hole",
@@ -217,7 +217,7 @@ fn whole_files(rt: HostRuntime) -> Result<(), Fail> {
             DATUM_HOLE,
             AT_MMC_5,
             "frame = [{name = 'm', kind = 'position', features = ['h'], tolerance = 10, material = 'mmc', datums = ['D(M)']}]",
-            Told::Read(2, 1, 1),
+            "read 2 1 1",
         ),
         (
             "two frames of one group",
@@ -227,7 +227,7 @@ fn whole_files(rt: HostRuntime) -> Result<(), Fail> {
             "frame = [
 {name = 'f1', kind = 'position', features = ['h1'], tolerance = 10, datums = ['D(M)']},
 {name = 'f2', kind = 'position', features = ['h2'], tolerance = 10, datums = ['D(M)']}]",
-            Told::Read(3, 1, 2),
+            "read 3 1 2",
         ),
         (
             "two frames, each by itself",
@@ -237,7 +237,7 @@ fn whole_files(rt: HostRuntime) -> Result<(), Fail> {
             "frame = [
 {name = 'f1', kind = 'position', features = ['h1'], tolerance = 10, datums = ['D(M)'], separate = true},
 {name = 'f2', kind = 'position', features = ['h2'], tolerance = 10, datums = ['D(M)'], separate = true}]",
-            Told::Read(3, 1, 2),
+            "read 3 1 2",
         ),
         (
             "a composite frame",
@@ -246,89 +246,57 @@ fn whole_files(rt: HostRuntime) -> Result<(), Fail> {
             TWO_AXES,
             "frame = [
 {name = 'pat', kind = 'position', features = ['h1', 'h2'], tolerance = 100, datums = ['D(M)'], lower = 10, lower_datums = ['D(M)']}]",
-            Told::Read(3, 1, 1),
+            "read 3 1 1",
         ),
-        ("runouts", SEAT, RUNOUT, "", "", Told::Read(2, 1, 2)),
+        ("runouts", SEAT, RUNOUT, "", "", "read 2 1 2"),
     ];
     for (name, points, head, middle, tail, want) in cases {
         let text = format!(in rt.alloc(); "{head}{middle}{tail}\n")?;
-        let got = answer(rt.alloc(), points.as_bytes(), text.as_bytes());
-        assert_eq!(rt; got, want, "{name}");
+        let got = told(rt.alloc(), points, text.as_bytes())?;
+        assert_eq!(rt; got.as_str(), want, "{name}");
     }
     Ok(())
 }
 
-// The smallest file of each code, as docs/FORMATS.md has it; those of 32 and 34 stand below.
+// The smallest file of each code, as docs/FORMATS.md has it, with `;` for the end of a line; those of 32 and 34 stand below.
+const SMALLEST: &str = "\
+20 0 0 | v
+21 0 0 | version = 2
+22 0 0 | a = 1; version = 1; FRAME; FEATURE
+23 0 0 | # nothing
+24 0 0 | version = '1'
+25 0 0 | version = 1; turn = 21; FRAME; FEATURE
+26 1 3 | version = 1; FEATURE; frame = [{name = 'top', kind = 'flatness', features = ['x'], tolerance = 10}]
+27 1 3 | version = 1; FEATURE; frame = [{name = 'top', kind = 'flatness', features = ['s'], tolerance = 10, datums = ['X']}]
+28 2 1 | version = 1; FRAME; feature = [TABLE, TABLE]
+29 1 3 | version = 1; FEATURE; datum = [{name = 'D', feature = 's'}]; frame = [{name = 'top', kind = 'profile', features = ['s'], tolerance = 10, datums = ['D']}]
+30 1 1 | version = 1; FRAME; feature = [{name = 's', shape = 'plane', direction = [0, 0, 0], point = [0, 0, 0]}]
+31 1 3 | version = 1; FEATURE; frame = [{name = 'top', kind = 'flatness', features = ['s'], tolerance = 10, material = 'mmc'}]";
+
+const FRAME: &str = "frame = [{name = 'top', kind = 'flatness', features = ['s'], tolerance = 10}]";
+
+const TABLE: &str = "{name = 's', shape = 'plane', direction = [0, 0, 1], point = [0, 0, 0]}";
+
 #[test]
 fn smallest_files(rt: HostRuntime) -> Result<(), Fail> {
-    let feature =
-        "feature = [{name = 's', shape = 'plane', direction = [0, 0, 1], point = [0, 0, 0]}]\n";
-    let frame = "frame = [{name = 'top', kind = 'flatness', features = ['s'], tolerance = 10}]\n";
-    let cases = [
-        ("v", "", "", Told::Fault(20, 0, 0)),
-        ("version = 2", "", "", Told::Fault(21, 0, 0)),
-        (
-            "a = 1\nversion = 1\n",
-            feature,
-            frame,
-            Told::Fault(22, 0, 0),
-        ),
-        ("", "", "", Told::Fault(23, 0, 0)),
-        ("version = '1'", "", "", Told::Fault(24, 0, 0)),
-        (
-            "version = 1\nturn = 21\n",
-            feature,
-            frame,
-            Told::Fault(25, 0, 0),
-        ),
-        (
-            "version = 1\n",
-            feature,
-            "frame = [{name = 'top', kind = 'flatness', features = ['x'], tolerance = 10}]",
-            Told::Fault(26, 1, 3),
-        ),
-        (
-            "version = 1\n",
-            feature,
-            "frame = [{name = 'top', kind = 'flatness', features = ['s'], tolerance = 10, datums = ['X']}]",
-            Told::Fault(27, 1, 3),
-        ),
-        (
-            "version = 1\nfeature = [{name = 's', shape = 'plane', direction = [0, 0, 1], point = [0, 0, 0]},",
-            "{name = 's', shape = 'plane', direction = [0, 0, 1], point = [0, 0, 0]}]\n",
-            frame,
-            Told::Fault(28, 2, 1),
-        ),
-        (
-            "version = 1\ndatum = [{name = 'D', feature = 's'}]\n",
-            feature,
-            "frame = [{name = 'top', kind = 'profile', features = ['s'], tolerance = 10, datums = ['D']}]",
-            Told::Fault(29, 1, 3),
-        ),
-        (
-            "version = 1\n",
-            "feature = [{name = 's', shape = 'plane', direction = [0, 0, 0], point = [0, 0, 0]}]\n",
-            frame,
-            Told::Fault(30, 1, 1),
-        ),
-        (
-            "version = 1\n",
-            feature,
-            "frame = [{name = 'top', kind = 'flatness', features = ['s'], tolerance = 10, material = 'mmc'}]",
-            Told::Fault(31, 1, 3),
-        ),
-    ];
-    for (head, middle, tail, want) in cases {
-        let text = format!(in rt.alloc(); "{head}{middle}{tail}")?;
-        let got = answer(rt.alloc(), SADDLE.as_bytes(), text.as_bytes());
-        assert_eq!(rt; got, want, "{text}");
+    for line in SMALLEST.lines() {
+        let (want, case) = line.split_once(" | ").unwrap_or((line, ""));
+        let text = case.replace(rt.alloc(), "FEATURE", "feature = [TABLE]")?;
+        let text = text.replace(rt.alloc(), "TABLE", TABLE)?;
+        let text = text.replace(rt.alloc(), "FRAME", FRAME)?;
+        let text = text.replace(rt.alloc(), "; ", "\n")?;
+        assert_eq!(rt;
+            told(rt.alloc(), SADDLE, text.as_bytes())?.as_str(),
+            want,
+            "{line}"
+        );
     }
-    let got = answer(
+    let got = told(
         rt.alloc(),
-        SADDLE.as_bytes(),
+        SADDLE,
         b"version = 1\nturn = '\xff'\n".as_slice(),
-    );
-    assert_eq!(rt; got, Told::Fault(20, 0, 0));
+    )?;
+    assert_eq!(rt; got.as_str(), "20 0 0");
     Ok(())
 }
 
@@ -346,18 +314,18 @@ fn empty_tables(alloc: Global, key: &str, count: usize) -> Result<String, AllocE
 #[test]
 fn long_lists(rt: HostRuntime) -> Result<(), Fail> {
     let cases = [
-        ("feature", 1_024, "frame = [{}]", Told::Fault(23, 1, 1)),
-        ("feature", 1_025, "frame = [{}]", Told::Fault(25, 0, 0)),
-        ("datum", 64, "frame = [{}]", Told::Fault(23, 1, 2)),
-        ("datum", 65, "frame = [{}]", Told::Fault(25, 0, 0)),
-        ("frame", 256, "", Told::Fault(23, 1, 3)),
-        ("frame", 257, "", Told::Fault(25, 0, 0)),
+        ("feature", 1_024, "frame = [{}]", "23 1 1"),
+        ("feature", 1_025, "frame = [{}]", "25 0 0"),
+        ("datum", 64, "frame = [{}]", "23 1 2"),
+        ("datum", 65, "frame = [{}]", "25 0 0"),
+        ("frame", 256, "", "23 1 3"),
+        ("frame", 257, "", "25 0 0"),
     ];
     for (key, count, tail, want) in cases {
         let mut text = empty_tables(rt.alloc(), key, count)?;
         text.push_str(tail)?;
-        let got = answer(rt.alloc(), SADDLE.as_bytes(), text.as_bytes());
-        assert_eq!(rt; got, want, "{count} of {key}");
+        let got = told(rt.alloc(), SADDLE, text.as_bytes())?;
+        assert_eq!(rt; got.as_str(), want, "{count} of {key}");
     }
     Ok(())
 }
@@ -403,16 +371,16 @@ const PARALLEL: &str =
 #[test]
 fn many_conditions(rt: HostRuntime) -> Result<(), Fail> {
     let cases = [
-        (93, CIRCULAR, "", Told::Read(6, 1, 1)),
-        (94, CIRCULAR, "", Told::Fault(34, 1, 3)),
-        (94, CIRCULAR, PARALLEL, Told::Fault(34, 1, 3)),
-        (94, PARALLEL, CIRCULAR, Told::Fault(32, 1, 3)),
+        (93, CIRCULAR, "", "read 6 1 1"),
+        (94, CIRCULAR, "", "34 1 3"),
+        (94, CIRCULAR, PARALLEL, "34 1 3"),
+        (94, PARALLEL, CIRCULAR, "32 1 3"),
     ];
     for (last, first, second, want) in cases {
         let points = five_pins(rt.alloc(), last)?;
         let text = format!(in rt.alloc(); "{PINS}frame = [{first},{second}]\n")?;
-        let got = answer(rt.alloc(), points.as_bytes(), text.as_bytes());
-        assert_eq!(rt; got, want, "{last} groups, {first}");
+        let got = told(rt.alloc(), points.as_str(), text.as_bytes())?;
+        assert_eq!(rt; got.as_str(), want, "{last} groups, {first}");
     }
     Ok(())
 }
