@@ -6,7 +6,8 @@ use Rattle.gd_base.specs.Limits.{LARGE_SHIFT}
 use Rattle.gd_cells.specs.Grid.{IsCell}
 use Rattle.gd_cells.specs.declared.cell.Cell.{Cell}
 use Rattle.gd_cells.specs.declared.cell.Witness.{Witness}
-use Rattle.gd_dir.proofs.FormCells.{are_circles, are_faces, are_lines, by_axis}
+use Rattle.gd_dir.proofs.FormCells.{are_circles, are_lines, by_axis}
+use Rattle.gd_dir.proofs.Halves.{are_faces}
 use Rattle.gd_dir.specs.Boxes.{ORIGIN, direction_of}
 use Rattle.gd_dir.specs.Directions.{LeadsAlong, entry}
 use Rattle.gd_dir.specs.FormBoxes.{offset_at}

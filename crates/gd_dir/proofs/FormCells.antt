@@ -1,11 +1,11 @@
 -- The forms by their grids: their boxes hold the candidates of their cells, and their cells cover all.
-use Rattle.std.proofs.Common.{arith, ◌≡◌, refl, sym, ap, subst, ◌∙◌, ℕ, zero, suc, ◌+◌, ◌*◌, ◌^◌, ◌≤◌, ◌<◌, ℤ, pos, ◌+ℤ◌, ◌-ℤ◌, ◌*ℤ◌, ◌≤ℤ◌, ◌<ℤ◌, ◌⊎◌, inl, inr, unsigned_abs, Bool, true, false, ◌==◌, if◌then◌else◌, List, [], ◌∷◌}
+use Rattle.std.proofs.Common.{arith, ◌≡◌, refl, sym, ap, subst, ◌∙◌, ℕ, zero, suc, ◌+◌, ◌*◌, ◌^◌, ◌≤◌, ◌<◌, ℤ, pos, ◌+ℤ◌, ◌-ℤ◌, ◌*ℤ◌, ◌≤ℤ◌, ◌<ℤ◌, ◌⊎◌, inl, inr, unsigned_abs, Bool, true, false, ◌==◌, if◌then◌else◌, List}
 use Rattle.std.proofs.lemmas.Int.{ints}
 use Rattle.std.proofs.lemmas.Nat.{pow-add}
 use Rattle.gd_cells.specs.Grid.{Grid, IsCell, cell_of}
 use Rattle.gd_cells.specs.declared.cell.Cell.{Cell}
 use Rattle.gd_dir.proofs.Enclosure.{box_encloses, box_fits, corner_within, corners_ordered}
-use Rattle.gd_dir.proofs.Halves.{boxes_nest, faces_cover, grid_has_face_cells, halves_cover}
+use Rattle.gd_dir.proofs.Halves.{boxes_nest, faces_cover, grid_has_face_cells, halves_cover, ratio_is}
 use Rattle.gd_dir.specs.Boxes.{HoldsDirection, HoldsOffset, IsBelow, IsBox, OffsetWithin, direction_of}
 use Rattle.gd_dir.specs.Covers.{IsPart}
 use Rattle.gd_dir.specs.Directions.{LeadsAlong, RatioWithin, entry, first_other, second_other}
@@ -18,6 +18,7 @@ use Rattle.gd_grid.proofs.InTurn.{box_is_in, lies_between, nest_in_turn}
 use Rattle.gd_grid.proofs.Halves as halves
 use Rattle.gd_grid.proofs.Ranges.{about_holds, about_is, about_size, few_power}
 use Rattle.gd_grid.proofs.Grids.{coordinates_make_grid}
+use Rattle.gd_grid.proofs.Steps.{cell_root, root_is}
 use Rattle.gd_grid.specs.Cells.{AreInRange, IsBetween, IsGridOf, LieIn, coordinate_at, fraction_at, high_in, low_in}
 use Rattle.gd_grid.specs.Coordinates.{IsCoordinate, high}
 use Rattle.gd_grid.specs.Laws.{AreCoordinates, IsBoxIn}
@@ -26,9 +27,6 @@ use Rattle.gd_vec.specs.Vector.{IsWithin}
 use Rattle.gd_vec.specs.declared.vector.V3.{V3}
 
 -- ---- the coordinates
-ratio_is : IsCoordinate ratio
-ratio_is = about_is (pos 0) 30 (omega arith) (omega arith)
-
 offset_is : (shift : ℕ) → shift ≤ 28 → IsCoordinate (offset shift)
 offset_is shift h = about_is (pos 0) (shift + 16) (omega arith) (omega (arith, h))
 
@@ -47,14 +45,6 @@ are_lines shift h = record { some = omega arith; few = omega arith; each = each 
     each (suc (suc zero)) k = offset_is shift h
     each (suc (suc (suc zero))) k = offset_is shift h
     each (suc (suc (suc (suc n)))) k = absurd (omega arith)
-
-pub are_faces : AreCoordinates (ratio ∷ ratio ∷ [])
-are_faces = record { some = omega arith; few = omega arith; each = each }
-  where
-    each : (n : ℕ) → n < 2 → IsCoordinate (coordinate_at (ratio ∷ ratio ∷ []) n)
-    each zero k = ratio_is
-    each (suc zero) k = ratio_is
-    each (suc (suc n)) k = absurd (omega arith)
 
 pub are_circles : (shift : ℕ) → shift ≤ 28 → AreCoordinates (circles shift)
 are_circles shift h = record { some = omega arith; few = omega arith; each = each }
@@ -177,15 +167,6 @@ offset_within axis a b h k = choose (axis == 1) (axis == 2)
     choose true v = record { x = omega arith; y = h; z = k }
     choose false true = record { x = h; y = omega arith; z = k }
     choose false false = record { x = h; y = k; z = omega arith }
-
-pub root_is : (g : Grid) (r l p : ℕ) → (cell_of g r l p).root ≡ r
-unfolding cell_of
-root_is g r l p = refl
-
-pub cell_root : (g : Grid) (c : Cell) → IsCell g c → (1 ≤ c.root) × (c.root ≤ g.roots)
-cell_root g c cell =
-    let e : c.root ≡ cell.root = ap (λ (d : Cell). d.root) cell.same ∙ root_is g cell.root cell.level cell.path in
-    (omega (arith, e, cell.first_root), omega (arith, e, cell.last_root))
 
 line_fits : (shift : ℕ) (c : Cell) → shift ≤ 28 → IsCell (cells_of Line shift) c → IsBox (line_box Line shift c)
 line_fits shift c h cell =

@@ -1,5 +1,5 @@
 // The grid of a form: its sizes, and its places.
-ghost use Rattle.std.specs.Prelude.{◌≡◌, ◌≤◌, ℕ};
+ghost use Rattle.std.specs.Prelude.{◌≡◌, ◌≤◌};
 ghost use Rattle.gd_base.specs.Limits.{LARGE_SHIFT};
 ghost use Rattle.gd_cells.specs.Grid.{IsCell};
 ghost use Rattle.gd_dir.specs.FormPlaces.{dims_of, four_coordinates};

@@ -1,6 +1,6 @@
 // The boxes of a cell.
-ghost use Rattle.std.specs.Prelude.{◌≡◌, ◌<◌, ◌≤◌, ◌+◌, ◌*◌, ◌/◌, ◌^◌, ◌+ℤ◌, ◌≤ℤ◌, get_or, pos, unsigned_abs};
-ghost use Rattle.gd_grid.specs.Coordinates.{IsCoordinate, high_after, low_after, middle_after, width_after};
+ghost use Rattle.std.specs.Prelude.{◌≡◌, ◌≤◌, ◌+◌, ◌*◌, ◌/◌, ◌^◌, ◌+ℤ◌, ◌≤ℤ◌, get_or, pos, unsigned_abs};
+ghost use Rattle.gd_grid.specs.Coordinates.{high_after, low_after, middle_after, width_after};
 ghost use Rattle.gd_grid.specs.Turns.{HasBox, turns};
 
 use crate::coordinate::{Coordinate, Ends, power};

@@ -2,7 +2,7 @@
 use Rattle.std.proofs.Common.{arith, ◌≡◌, refl, sym, ap, subst, ◌∙◌, ℕ, zero, suc, ◌+◌, ◌-◌, ◌*◌, ◌^◌, ◌≤◌, ◌<◌, ℤ, pos, ◌*ℤ◌, unsigned_abs, length, get_or, take}
 use Rattle.std.proofs.lemmas.Int.{ints}
 use Rattle.gd_base.specs.Limits.{LARGE_COORDINATE, LARGE_SHIFT, TURN}
-use Rattle.gd_cells.specs.Grid.{Grid, IsCell, cell_of}
+use Rattle.gd_cells.specs.Grid.{IsCell}
 use Rattle.gd_cells.specs.declared.cell.Cell.{Cell}
 use Rattle.gd_grid.proofs.Ranges.{about_is}
 use Rattle.gd_grid.proofs.Grids.{cells_have_boxes, coordinates_make_grid}
@@ -78,16 +78,6 @@ last_root r = few_roots r.turn
 
 pub is_grid_of : (r : Ranges) → AreRanges r → IsGridOf (cells_of r) (coordinates_of r)
 is_grid_of r are = (coordinates_make_grid (roots_of r.turn) (coordinates_of r) (some_roots r.turn) (few_roots r.turn) (are_coordinates r are)).1
-
--- ---- the root of a cell
-pub root_is : (g : Grid) (r l p : ℕ) → (cell_of g r l p).root ≡ r
-unfolding cell_of
-root_is g r l p = refl
-
-pub cell_root : (g : Grid) (c : Cell) → IsCell g c → (1 ≤ c.root) × (c.root ≤ g.roots)
-cell_root g c cell =
-    let e : c.root ≡ cell.root = ap (λ (d : Cell). d.root) cell.same ∙ root_is g cell.root cell.level cell.path in
-    (omega (arith, e, cell.first_root), omega (arith, e, cell.last_root))
 
 -- from the seventh on they are those of the offsets
 pub default_is : (r : Ranges) (n : ℕ) → 6 ≤ n → n < 3 * r.offsets + 6 → coordinate_at (coordinates_of r) n ≡ length_about r.shift (pos 0)

@@ -14,7 +14,8 @@ use Rattle.gd_grid.specs.Coordinates.{high}
 use Rattle.gd_int.proofs.Integers.{mul-assoc_ℤ, mul_comm_ℤ}
 use Rattle.gd_quat.specs.Placements.{IsPlacement, Placement}
 use Rattle.gd_quat.specs.Rotations.{IsRotation, Rotation}
-use Rattle.gd_turn.proofs.Coordinates.{are_coordinates, first_root, is_grid_of, last_root, length_of, root_is}
+use Rattle.gd_grid.proofs.Steps.{root_is}
+use Rattle.gd_turn.proofs.Coordinates.{are_coordinates, first_root, is_grid_of, last_root, length_of}
 use Rattle.gd_turn.specs.Covers.{CellsMakeGrid, CentresAreInRange, HalvesCover, HasRoot, RootsCover}
 use Rattle.gd_turn.specs.Ranges.{AreRanges, IsInRange, IsNear, IsTurnInRange, IsWithinTurn, LiesIn, ORIGIN, cells_of, component, coordinates_of, face_of, fine, fine_entries, first_other, length_about, numbers_of, offset_coordinates, ratio, ratio_to, roots_of, second_other, third_other, turn_of}
 use Rattle.gd_turn.specs.declared.ranges.Ranges.{Ranges}

@@ -20,7 +20,8 @@ use Rattle.gd_quat.specs.Placements.{Placement, times}
 use Rattle.gd_quat.specs.Rotations.{Rotation}
 use Rattle.gd_quat.specs.declared.shape.RotationBox.{RotationBox}
 use Rattle.gd_quat.specs.declared.shape.VecBox.{VecBox}
-use Rattle.gd_turn.proofs.Coordinates.{are_coordinates, cell_root, first_root, last_root, later_is, length_of}
+use Rattle.gd_grid.proofs.Steps.{cell_root}
+use Rattle.gd_turn.proofs.Coordinates.{are_coordinates, first_root, last_root, later_is, length_of}
 use Rattle.gd_turn.specs.Boxes.{EnclosesPlacements, IsBoxOf, IsCellBox, ends_in, offset_ends, three_from, turn_ends}
 use Rattle.gd_turn.specs.Ranges.{AreRanges, ORIGIN, cells_of, component, coordinates_of, face_of, fine, first_other, length_about, numbers_of, ratio, ratio_to, roots_of, second_other, third_other, turn_of}
 use Rattle.gd_turn.specs.declared.ranges.CellBox.{CellBox}

@@ -10,7 +10,8 @@ use Rattle.gd_quat.specs.Formulas.{Ends, RotationEnds, VectorEnds, alone, ends, 
 use Rattle.gd_quat.specs.Laws.{Lies, RotationInside, VectorInside}
 use Rattle.gd_quat.specs.declared.shape.RotationBox.{RotationBox}
 use Rattle.gd_quat.specs.declared.shape.VecBox.{VecBox}
-use Rattle.gd_turn.proofs.Coordinates.{are_coordinates, first_root, last_root, length_of, root_is}
+use Rattle.gd_grid.proofs.Steps.{root_is}
+use Rattle.gd_turn.proofs.Coordinates.{are_coordinates, first_root, last_root, length_of}
 use Rattle.gd_turn.proofs.Holds.{face_small, has_none, has_offset}
 use Rattle.gd_turn.specs.Boxes.{ends_in, three_from, turn_ends}
 use Rattle.gd_turn.specs.Covers.{BoxesNest}

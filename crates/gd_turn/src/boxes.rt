@@ -1,5 +1,5 @@
 // The box of a cell of placements.
-ghost use Rattle.std.specs.Prelude.{◌≡◌, ◌+◌, ◌*◌, ◌<◌, ◌≤◌, ◌^◌, pos, unsigned_abs};
+ghost use Rattle.std.specs.Prelude.{◌≡◌, ◌+◌, ◌*◌, ◌<◌, ◌≤◌, unsigned_abs};
 ghost use Rattle.gd_base.specs.Limits.{LARGE_COORDINATE, LARGE_SHIFT, TURN};
 ghost use Rattle.gd_cells.specs.Grid.{IsCell};
 ghost use Rattle.gd_grid.specs.Cells.{coordinate_at};

@@ -1,13 +1,14 @@
 // The grid of ranges: its sizes, and its places.
-ghost use Rattle.std.specs.Prelude.{◌≡◌, ◌≤◌, ◌*◌, ◌+◌};
+ghost use Rattle.std.specs.Prelude.{◌≡◌, ◌<◌, ◌≤◌, ◌*◌, ◌+◌};
 ghost use Rattle.gd_cells.specs.Grid.{IsCell};
+ghost use Rattle.gd_cells.specs.Halves.{halves};
 ghost use Rattle.gd_grid.specs.Cells.{centre_of, is_in_range};
 ghost use Rattle.gd_turn.specs.Ranges.{AreRanges, all_coordinates, cells_of, coordinates_of, roots_of};
 
 use crate::boxes::{length_about, ratio};
 use crate::ranges::{Ranges, TurnRange};
 use gd_cells::{Cell, MOST_DIMS, Witness};
-use gd_grid::Coordinate;
+use gd_grid::{Coordinate, split_in_turn};
 
 /// How many roots the grid has.
 pub fn roots(r: &Ranges) -> u32
@@ -64,6 +65,16 @@ pub fn centre_of(r: &Ranges, c: &Cell) -> Witness
 {
     let all = all_coordinates(r);
     gd_grid::centre_of(&all[..dims(r) as usize], c)
+}
+
+/// Both halves of a cell above the finest level, along the coordinate of its level's step: the lower one first.
+pub fn split(r: &Ranges, c: &Cell) -> (Cell, Cell)
+    requires ranges { AreRanges r.now }
+    requires cell { IsCell (cells_of r.now) c.now }
+    requires above { c.now.level < (cells_of r.now).finest }
+    ensures { result ≡ halves (cells_of r.now) c.now }
+{
+    split_in_turn(dims(r), c)
 }
 
 // The coordinates, as if there were two offsets.

@@ -9,7 +9,7 @@ mod places;
 mod ranges;
 
 pub use boxes::cell_box;
-pub use grid::{centre_of, dims, finest_level, is_in_range, roots};
+pub use grid::{centre_of, dims, finest_level, is_in_range, roots, split};
 pub use images::cell_image;
 pub use laws::placements_cover;
 pub use places::placement_at;

@@ -1,9 +1,10 @@
 use Rattle.std.proofs.Common.{arith, rules, subst, sym, ◌≡◌}
-use Rattle.gd_dir.proofs.FormCells.{are_lines, cell_root, with_offsets}
+use Rattle.gd_dir.proofs.FormCells.{are_lines, with_offsets}
 use Rattle.gd_dir.specs.FormBoxes.{offset_at}
 use Rattle.gd_dir.specs.Forms.{cells_of, coordinates_of}
 use Rattle.gd_dir.specs.declared.shape.FormShape.TheVariants.{Line}
 use Rattle.gd_grid.proofs.Grids.{cells_have_boxes}
+use Rattle.gd_grid.proofs.Steps.{cell_root}
 use Rattle.gd_grid.specs.Cells.{high_in, low_in}
 use Rattle.gd_grid.specs.Turns.{HasBox}
 use Rattle.gd_dir.proofs.forms.line_box.Goals as goal

@@ -1,4 +1,4 @@
-use Rattle.gd_turn.proofs.Coordinates.{cell_root}
+use Rattle.gd_grid.proofs.Steps.{cell_root}
 use Rattle.gd_turn.specs.Ranges.{cells_of}
 use Rattle.gd_turn.proofs.boxes.turn_box.Goals as goal
 
