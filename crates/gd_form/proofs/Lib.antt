@@ -5,6 +5,7 @@ mod KnownValues
 pub mod Leading
 pub mod LineLoops
 pub mod Near
+pub mod PlaceFacts
 pub mod Radius
 pub mod RootExtremes
 pub mod Roots

@@ -1,11 +1,13 @@
 -- Axes, and what it means that points lie within a tolerance about one: straightness of a derived median line,
 -- circularity and cylindricity.
-use Rattle.std.specs.Prelude.{ℕ, ℤ, pos, ◌*◌, ◌^◌, ◌≤◌, ◌≡◌, ◌*ℤ◌, ◌≤ℤ◌, List, [], ◌∷◌}
+use Rattle.std.specs.Prelude.{ℕ, ℤ, pos, ◌*ℤ◌, ◌≤ℤ◌, List, [], ◌∷◌}
 use Rattle.std.specs.List.{All}
-use Rattle.gd_dir.specs.Directions.{LeadsAlong, entry}
+use Rattle.gd_dir.specs.Forms.{IsCandidate, IsNear}
+use Rattle.gd_dir.specs.declared.shape.FormShape.{FormShape}
+use Rattle.gd_dir.specs.declared.shape.FormShape.TheVariants.{Flat, Line, Circle, Cylinder}
 use Rattle.gd_int.specs.Comparisons.{RootAtMost}
 use Rattle.gd_quat.specs.Placements.{times}
-use Rattle.gd_vec.specs.Vector.{IsWithin, difference, norm2_of}
+use Rattle.gd_vec.specs.Vector.{difference, norm2_of}
 use Rattle.gd_vec.specs.declared.vector.V3.{V3}
 use Rattle.gd_zone.specs.Conditions.{cross}
 
@@ -49,34 +51,24 @@ abbrev pub first_of : List V3 → V3
 first_of [] = record { x = pos 0; y = pos 0; z = pos 0 }
 first_of (p ∷ points) = p
 
--- ---- candidates
--- the direction leads along an axis of coordinates, and the axis' point lies in the plane through the form's own point normal to that
-pub record IsAxisAlong (axis : ℕ) (x : Axis) : Type 0 where
-  pub first : 1 ≤ axis
-  pub last : axis ≤ 3
-  pub leads : LeadsAlong axis x.direction
-  pub scale : 1 ≤ x.scale
-  pub level : entry axis x.offset ≡ pos 0
+-- ---- forms
+-- the zone of a form about an axis holds all points. Flatness has no axis
+abbrev pub HasZoneOf : FormShape → List V3 → ℕ → Axis → V3 → Type 0
+HasZoneOf Flat points t x a = ⊥
+HasZoneOf Line points t x a = HasCylinder points t x a
+HasZoneOf Circle points t x a = HasRing points t x a
+HasZoneOf Cylinder points t x a = HasRing points t x a
 
--- the axis' point lies within 2^shift units of the form's own point, along each axis of coordinates
-abbrev pub IsInReach : ℕ → Axis → Type 0
-IsInReach shift x = IsWithin (x.scale * 2 ^ shift) x.offset
+-- the axis' point lies within 2^shift units of the form's own point, along each axis of coordinates; that of a line is free
+abbrev pub IsInReach : FormShape → ℕ → Axis → Type 0
+IsInReach Flat shift x = IsNear shift (pos x.scale) x.offset
+IsInReach Line shift x = Unit {0}
+IsInReach Circle shift x = IsNear shift (pos x.scale) x.offset
+IsInReach Cylinder shift x = IsNear shift (pos x.scale) x.offset
 
--- straightness: a cylinder about the axis holds the points. The form's own point is the first of them, and the reach is free
-pub record IsStraightAbout (points : List V3) (t axis : ℕ) (x : Axis) : Type 0 where
-  pub along : IsAxisAlong axis x
-  pub zone : HasCylinder points t x (first_of points)
-
--- cylindricity: the points lie between two cylinders about the axis, where the form's own point is at a
-pub record IsCylindricalAbout (points : List V3) (t shift axis : ℕ) (a : V3) (x : Axis) : Type 0 where
-  pub along : IsAxisAlong axis x
-  pub reach : IsInReach shift x
-  pub zone : HasRing points t x a
-
--- circularity in a section across d: the same about an axis along d, whose point lies in the plane normal to one axis of coordinates
-pub record IsCircularAbout (points : List V3) (t shift axis : ℕ) (d a : V3) (x : Axis) : Type 0 where
-  pub direction : x.direction ≡ d
-  pub scale : 1 ≤ x.scale
-  pub level : entry axis x.offset ≡ pos 0
-  pub reach : IsInReach shift x
-  pub zone : HasRing points t x a
+-- a form is met about an axis that it may take. d is the direction of a circle's section, and the form's own point is at a:
+-- for a line the first of its points
+pub record IsMetAbout (shape : FormShape) (points : List V3) (t shift : ℕ) (d a : V3) (axis : ℕ) (x : Axis) : Type 0 where
+  pub candidate : IsCandidate shape d axis x.direction (pos x.scale) x.offset
+  pub reach : IsInReach shape shift x
+  pub zone : HasZoneOf shape points t x a

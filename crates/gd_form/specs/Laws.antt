@@ -3,6 +3,7 @@ pub mod Accepts
 pub mod AxisEvidence
 pub mod AxisHeld
 pub mod AxisSound
+pub mod AxisTask
 pub mod Evidences
 pub mod Firsts
 pub mod Pairs

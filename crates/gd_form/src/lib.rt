@@ -3,13 +3,16 @@
 
 mod axis;
 mod axis_box;
+mod axis_task;
 mod extent;
 mod extremes;
 mod face;
 mod flat;
+mod forms;
 mod judged;
 mod laws;
 mod line;
+mod places;
 mod points;
 mod products;
 mod ring;
@@ -18,6 +21,7 @@ mod task;
 mod wide;
 
 pub use axis_box::AxisBox;
+pub use axis_task::AxisTask;
 pub use judged::Judged;
 pub use laws::{axis_tests_are_sound, zones_are_meant};
 pub use line::{is_line, is_line_refuted_at, line_evidence_in};

@@ -55,7 +55,7 @@ is-named judged n h =
     and-both (nat_le 1 (n + 1)) (list_any (λ (m : ℕ). nat_eq m (n + 1 - 1)) judged) (grind (arith, nat_tests)) (subst (λ k. list_any (λ (m : ℕ). nat_eq m k) judged ≡ true) (sym e) h)
 
 -- ---- straightness
-found : (f : ℕ → Bool) (judged : List ℕ) (i : ℕ) → find f judged ≡ Some i → (list_any (λ (n : ℕ). nat_eq n i) judged ≡ true) × (f i ≡ true)
+pub found : (f : ℕ → Bool) (judged : List ℕ) (i : ℕ) → find f judged ≡ Some i → (list_any (λ (n : ℕ). nat_eq n i) judged ≡ true) × (f i ≡ true)
 found f [] i h = absurd (cc)
 found f (j ∷ judged) i h = by (f j) refl h (λ g. found f judged i g)
   where
@@ -76,7 +76,7 @@ not-found f (j ∷ judged) k h lt = by (f j) refl h k lt (λ m g l. not-found f 
     by false e g zero lt later = e
     by false e g (suc k) lt later = later k g (omega (arith, lt))
 
-mapped : (o : Option ℕ) (e : Evidence) → option_map point_evidence o ≡ Some e → (i : ℕ) × (o ≡ Some i) × (point_evidence i ≡ e)
+pub mapped : (o : Option ℕ) (e : Evidence) → option_map point_evidence o ≡ Some e → (i : ℕ) × (o ≡ Some i) × (point_evidence i ≡ e)
 mapped (Some i) e h = (i, refl, cc)
 mapped None e h = absurd (cc)
 
@@ -141,7 +141,7 @@ module _ (shape : FormShape) (rows : List Row) (judged : List ℕ) (t : ℕ) (b 
       less : (u g l v : ℤ) → u ≤ℤ g → l ≤ℤ v → (u -ℤ v) ≤ℤ (g -ℤ l)
       less u g l v h i = omega (arith, ints, h, i)
 
-chosen : (t : Bool) (e d : Evidence) → cond t (Some e) None ≡ Some d → (t ≡ true) × (e ≡ d)
+pub chosen : (t : Bool) (e d : Evidence) → cond t (Some e) None ≡ Some d → (t ≡ true) × (e ≡ d)
 chosen true e d h = (refl, cc)
 chosen false e d h = absurd (cc)
 

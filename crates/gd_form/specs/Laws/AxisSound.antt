@@ -75,7 +75,7 @@ all-points P rows judged f = λ k d lt.
     let inside : k < length judged = rw length-map at lt in
     subst P (sym (get_or-map at judged k 0 d inside)) (f k inside)
 
-one-point : (P : V3 → Type 0) (rows : List Row) (judged : List ℕ) (k : ℕ) → All P (points_at rows judged) → k < length judged → P (point_at rows (get_or judged k 0))
+pub one-point : (P : V3 → Type 0) (rows : List Row) (judged : List ℕ) (k : ℕ) → All P (points_at rows judged) → k < length judged → P (point_at rows (get_or judged k 0))
 one-point P rows judged k h inside =
     let at : ℕ → V3 = λ (i : ℕ). point_at rows i in
     let lt : k < length (map at judged) = rw length-map inside in
