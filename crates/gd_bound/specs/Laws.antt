@@ -16,6 +16,10 @@ use Rattle.gd_zone.specs.declared.placed.Placed.{Placed}
 abbrev pub IsUnmet : Placed → V3 → List Row → Condition → Type 0
 IsUnmet b base rows c = (p : Placement) → IsPlacement p → HoldsPlacement b p → Meets p base rows c → ⊥
 
+-- no evidence refutes the condition
+abbrev pub NothingRefutes : PlacedEnds → V3 → List Row → Condition → Type 0
+NothingRefutes b base rows c = (e : Evidence) → refuted_at b base rows c e ≡ false
+
 -- where some evidence refutes, the condition is refuted by its written test
 abbrev pub EvidenceRefutes : Type 0
 EvidenceRefutes = (b : PlacedEnds) (base : V3) (rows : List Row) (c : Condition) (e : Evidence) → IsCondition c → refuted_at b base rows c e ≡ true → condition_refuted b base rows c ≡ true

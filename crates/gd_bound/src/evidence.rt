@@ -165,6 +165,36 @@ pub fn all_above(view: &View<'_>, hi: i64) -> bool
     }
 }
 
+/// Whether all points of the condition pass a value by more than `slack`.
+pub fn group_exceeds(view: &View<'_>, slack: i64, value: Iv) -> bool
+    requires condition { IsCondition view.now.condition.now }
+    requires slack { IsBound slack }
+    requires value { IsSized view.now.condition.now.surface value }
+    ensures { result ≡ list_all (λ v. passes_by_more view.now.condition.now.surface slack v (ends value))
+        (map (ends_by (placed_ends view.now.placed.now) view.now.base.now view.now.condition.now view.now.index.now.table.now.rows)
+        (numbers_where (belongs view.now.condition.now) view.now.index.now.table.now.rows)) }
+{
+    match extremes_of(view, view.points()) {
+        None => true,
+        Some(x) => passes_by_more(&view.condition.surface, x.least, value, slack),
+    }
+}
+
+/// Whether a value passes all points of the condition by more than `slack`.
+pub fn exceeds_group(view: &View<'_>, slack: i64, value: Iv) -> bool
+    requires condition { IsCondition view.now.condition.now }
+    requires slack { IsBound slack }
+    requires value { IsSized view.now.condition.now.surface value }
+    ensures { result ≡ list_all (λ v. passes_by_more view.now.condition.now.surface slack (ends value) v)
+        (map (ends_by (placed_ends view.now.placed.now) view.now.base.now view.now.condition.now view.now.index.now.table.now.rows)
+        (numbers_where (belongs view.now.condition.now) view.now.index.now.table.now.rows)) }
+{
+    match extremes_of(view, view.points()) {
+        None => true,
+        Some(x) => passes_by_more(&view.condition.surface, value, x.greatest, slack),
+    }
+}
+
 // Whether all points of the condition pass a point by more than `slack`.
 fn all_pass(view: &View<'_>, slack: i64, b: u32) -> bool
     requires condition { IsCondition view.now.condition.now }
@@ -176,10 +206,7 @@ fn all_pass(view: &View<'_>, slack: i64, b: u32) -> bool
         (map (ends_by (placed_ends view.now.placed.now) view.now.base.now view.now.condition.now view.now.index.now.table.now.rows)
         (numbers_where (belongs view.now.condition.now) view.now.index.now.table.now.rows)) }
 {
-    match extremes_of(view, view.points()) {
-        None => true,
-        Some(x) => passes_by_more(&view.condition.surface, x.least, view.value(b - 1), slack),
-    }
+    group_exceeds(view, slack, view.value(b - 1))
 }
 
 // Whether a point passes all points of the condition by more than `slack`.
@@ -193,15 +220,7 @@ fn passes_all(view: &View<'_>, slack: i64, a: u32) -> bool
         (map (ends_by (placed_ends view.now.placed.now) view.now.base.now view.now.condition.now view.now.index.now.table.now.rows)
         (numbers_where (belongs view.now.condition.now) view.now.index.now.table.now.rows)) }
 {
-    match extremes_of(view, view.points()) {
-        None => true,
-        Some(x) => passes_by_more(
-            &view.condition.surface,
-            view.value(a - 1),
-            x.greatest,
-            slack,
-        ),
-    }
+    exceeds_group(view, slack, view.value(a - 1))
 }
 
 // Whether a pair of points refutes a condition of a demand.

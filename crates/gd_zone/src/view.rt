@@ -1,7 +1,7 @@
 // The points of a condition, as a box of placements shows them.
 ghost use Rattle.std.specs.Prelude.{◌≡◌, ◌<◌, ◌≤◌, ◌^◌, ◌-ℤ◌, length, unsigned_abs};
 ghost use Rattle.std.specs.List.{All};
-ghost use Rattle.gd_base.specs.Limits.{COORDINATE};
+ghost use Rattle.gd_base.specs.Limits.{COORDINATE, POINTS};
 ghost use Rattle.gd_points.specs.Columns.{AreColumns};
 ghost use Rattle.gd_points.specs.Index.{numbers_where};
 ghost use Rattle.gd_quat.specs.Formulas.{ends};
@@ -29,6 +29,7 @@ pub struct View<'a> {
     columns: Columns<'a>,
     ghost based: { IsWithin COORDINATE base.now },
     ghost held: { IsPlaced placed.now },
+    ghost few: { length index.now.table.now.rows ≤ POINTS },
     ghost within: { All (λ row. IsWithin COORDINATE row.at) index.now.table.now.rows },
     ghost same: { AreColumns columns.x.now columns.y.now columns.z.now index.now.table.now.rows },
 }
