@@ -21,6 +21,6 @@ high_threshold (Plane direction point) hi = hi
 high_threshold (Axis direction point) hi = ceil_root hi *ℤ ceil_root hi
 high_threshold (Ball point) hi = ceil_root hi *ℤ ceil_root hi
 
--- the pair that says that a demand is refuted: e are the values of points by their numbers, ns the numbers of the condition's points, all those of its feature
+-- the pair that says that a demand is refuted: ns are the numbers of the condition's points, all those of its feature
 unfoldable pub pair_by : Surface → Demand → (ℕ → Ends) → List ℕ → List ℕ → Option Pair
 pair_by s d e ns all = if surface_refuted s d (map e ns) (map e all) then Some (first_pair s d e ns all) else None

@@ -6,11 +6,10 @@ ghost use Rattle.gd_base.specs.Limits.{COORDINATE};
 ghost use Rattle.gd_bound.specs.Evidence.{first, point_number, refuted_at, value_outside};
 ghost use Rattle.gd_bound.specs.Laws.{IsUnmet, NothingRefutes};
 ghost use Rattle.gd_bound.specs.Thresholds.{pair_by};
-ghost use Rattle.gd_points.specs.Index.{numbers_where};
 ghost use Rattle.gd_vec.specs.Vector.{IsWithin};
 ghost use Rattle.gd_zone.specs.Boxes.{IsPlaced, placed_ends};
-ghost use Rattle.gd_zone.specs.Conditions.{IsBound, IsCondition, IsPair, belongs, is_of_feature};
-ghost use Rattle.gd_zone.specs.Extremes.{ends_by};
+ghost use Rattle.gd_zone.specs.Conditions.{IsBound, IsCondition, IsPair};
+ghost use Rattle.gd_zone.specs.Seen.{feature_in, points_in, rows_in, value_in};
 ghost use Rattle.gd_zone.specs.declared.condition.Demand.TheVariants.{Contact, HugInner, HugOuter, Spread, Within};
 
 use crate::evidence::{all_above, exceeds_group, group_exceeds, passes_by_more};
@@ -27,8 +26,8 @@ fn is_outside_at(view: &View<'_>, lo: Option<i64>, hi: Option<i64>, number: u32)
     requires condition { IsCondition view.now.condition.now }
     requires lo { IfSome lo IsBound }
     requires hi { IfSome hi IsBound }
-    requires number { number < length view.now.index.now.table.now.rows }
-    ensures { result ≡ value_outside view.now.condition.now.surface lo hi (ends_by (placed_ends view.now.placed.now) view.now.base.now view.now.condition.now view.now.index.now.table.now.rows number) }
+    requires number { number < length (rows_in view.now) }
+    ensures { result ≡ value_outside view.now.condition.now.surface lo hi (value_in view.now number) }
 {
     is_outside(&view.condition.surface, lo, hi, view.value(number))
 }
@@ -38,9 +37,8 @@ fn first_outside(view: &View<'_>, lo: Option<i64>, hi: Option<i64>) -> u32
     requires condition { IsCondition view.now.condition.now }
     requires lo { IfSome lo IsBound }
     requires hi { IfSome hi IsBound }
-    ensures { result ≡ point_number (find (λ i. value_outside view.now.condition.now.surface lo hi
-        (ends_by (placed_ends view.now.placed.now) view.now.base.now view.now.condition.now view.now.index.now.table.now.rows i))
-        (numbers_where (belongs view.now.condition.now) view.now.index.now.table.now.rows)) }
+    ensures { result ≡ point_number (find
+        (λ i. value_outside view.now.condition.now.surface lo hi (value_in view.now i)) (points_in view.now)) }
 {
     let numbers = view.points();
     for at in 0..numbers.len() {
@@ -57,9 +55,7 @@ fn within_pair(view: &View<'_>, lo: Option<i64>, hi: Option<i64>) -> Option<Pair
     requires lo { IfSome lo IsBound }
     requires hi { IfSome hi IsBound }
     ensures { result ≡ pair_by view.now.condition.now.surface (Within lo hi)
-        (ends_by (placed_ends view.now.placed.now) view.now.base.now view.now.condition.now view.now.index.now.table.now.rows)
-        (numbers_where (belongs view.now.condition.now) view.now.index.now.table.now.rows)
-        (numbers_where (is_of_feature view.now.condition.now) view.now.index.now.table.now.rows) }
+        (value_in view.now) (points_in view.now) (feature_in view.now) }
 {
     let a = first_outside(view, lo, hi);
     if a == 0 { None } else { Some(Pair { a, b: 0 }) }
@@ -70,9 +66,7 @@ fn spread_pair(view: &View<'_>, t: i64) -> Option<Pair>
     requires condition { IsCondition view.now.condition.now }
     requires t { IsBound t }
     ensures { result ≡ pair_by view.now.condition.now.surface (Spread t)
-        (ends_by (placed_ends view.now.placed.now) view.now.base.now view.now.condition.now view.now.index.now.table.now.rows)
-        (numbers_where (belongs view.now.condition.now) view.now.index.now.table.now.rows)
-        (numbers_where (is_of_feature view.now.condition.now) view.now.index.now.table.now.rows) }
+        (value_in view.now) (points_in view.now) (feature_in view.now) }
 {
     let surface = &view.condition.surface;
     let numbers = view.points();
@@ -97,9 +91,7 @@ fn contact_pair(view: &View<'_>, hi: i64) -> Option<Pair>
     requires hi { IsBound hi }
     requires pair { IsPair view.now.condition.now.surface (Contact hi) }
     ensures { result ≡ pair_by view.now.condition.now.surface (Contact hi)
-        (ends_by (placed_ends view.now.placed.now) view.now.base.now view.now.condition.now view.now.index.now.table.now.rows)
-        (numbers_where (belongs view.now.condition.now) view.now.index.now.table.now.rows)
-        (numbers_where (is_of_feature view.now.condition.now) view.now.index.now.table.now.rows) }
+        (value_in view.now) (points_in view.now) (feature_in view.now) }
 {
     if all_above(view, hi) {
         Some(Pair { a: 0, b: 0 })
@@ -114,9 +106,7 @@ fn inner_pair(view: &View<'_>, slack: i64) -> Option<Pair>
     requires slack { IsBound slack }
     requires pair { IsPair view.now.condition.now.surface (HugInner slack) }
     ensures { result ≡ pair_by view.now.condition.now.surface (HugInner slack)
-        (ends_by (placed_ends view.now.placed.now) view.now.base.now view.now.condition.now view.now.index.now.table.now.rows)
-        (numbers_where (belongs view.now.condition.now) view.now.index.now.table.now.rows)
-        (numbers_where (is_of_feature view.now.condition.now) view.now.index.now.table.now.rows) }
+        (value_in view.now) (points_in view.now) (feature_in view.now) }
 {
     let numbers = view.feature();
     match extremes_of(view, numbers) {
@@ -144,9 +134,7 @@ fn outer_pair(view: &View<'_>, slack: i64) -> Option<Pair>
     requires slack { IsBound slack }
     requires pair { IsPair view.now.condition.now.surface (HugOuter slack) }
     ensures { result ≡ pair_by view.now.condition.now.surface (HugOuter slack)
-        (ends_by (placed_ends view.now.placed.now) view.now.base.now view.now.condition.now view.now.index.now.table.now.rows)
-        (numbers_where (belongs view.now.condition.now) view.now.index.now.table.now.rows)
-        (numbers_where (is_of_feature view.now.condition.now) view.now.index.now.table.now.rows) }
+        (value_in view.now) (points_in view.now) (feature_in view.now) }
 {
     let numbers = view.feature();
     match extremes_of(view, numbers) {
@@ -172,9 +160,7 @@ fn outer_pair(view: &View<'_>, slack: i64) -> Option<Pair>
 fn refuting_pair(view: &View<'_>) -> Option<Pair>
     requires condition { IsCondition view.now.condition.now }
     ensures { result ≡ pair_by view.now.condition.now.surface view.now.condition.now.demand
-        (ends_by (placed_ends view.now.placed.now) view.now.base.now view.now.condition.now view.now.index.now.table.now.rows)
-        (numbers_where (belongs view.now.condition.now) view.now.index.now.table.now.rows)
-        (numbers_where (is_of_feature view.now.condition.now) view.now.index.now.table.now.rows) }
+        (value_in view.now) (points_in view.now) (feature_in view.now) }
 {
     match view.condition.demand {
         Demand::Within { lo, hi } => within_pair(view, lo, hi),
@@ -186,7 +172,8 @@ fn refuting_pair(view: &View<'_>) -> Option<Pair>
 }
 
 /// The first evidence that refutes a condition over a box of placements, with the number of the condition. Then no
-/// placement of the box meets it. `None` exactly where no evidence refutes it. `base` is the part's first point, in units.
+/// placement of the box meets it. `None` exactly where no evidence refutes it. `base` is the part's first point, in
+/// units.
 pub fn bound(
     condition: &Condition,
     number: u32,
@@ -200,7 +187,8 @@ pub fn bound(
     ensures first { result ≡ first (placed_ends placed.now) base.now index.now.table.now.rows condition.now number }
     ensures refuted { IfSome result (λ e.
         refuted_at (placed_ends placed.now) base.now index.now.table.now.rows condition.now e ≡ true) }
-    ensures none { IsNone result → NothingRefutes (placed_ends placed.now) base.now index.now.table.now.rows condition.now }
+    ensures none { IsNone result
+        → NothingRefutes (placed_ends placed.now) base.now index.now.table.now.rows condition.now }
     ensures unmet { IfSome result (λ _. IsUnmet placed.now base.now index.now.table.now.rows condition.now) }
 {
     let view = View::of(condition, index, base, placed);

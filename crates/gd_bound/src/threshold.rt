@@ -4,9 +4,8 @@ ghost use Rattle.std.specs.List.{All};
 ghost use Rattle.gd_base.specs.Limits.{POINTS};
 ghost use Rattle.gd_bound.specs.Evidence.{point_number};
 ghost use Rattle.gd_bound.specs.Thresholds.{high_threshold, low_threshold};
-ghost use Rattle.gd_zone.specs.Boxes.{placed_ends};
 ghost use Rattle.gd_zone.specs.Conditions.{IsCondition};
-ghost use Rattle.gd_zone.specs.Extremes.{ends_by};
+ghost use Rattle.gd_zone.specs.Seen.{rows_in, value_in};
 ghost use Rattle.gd_zone.specs.Tests.{ceil_root, floor_root};
 ghost use Rattle.gd_zone.specs.Values.{IsSizedEnd};
 
@@ -55,8 +54,8 @@ pub fn from_one(number: u32) -> u32
 // Whether the lower end of a point isn't below a threshold.
 fn is_high(view: &View<'_>, number: u32, threshold: i128) -> bool
     requires condition { IsCondition view.now.condition.now }
-    requires number { number < length view.now.index.now.table.now.rows }
-    ensures { result ≡ int_le threshold (ends_by (placed_ends view.now.placed.now) view.now.base.now view.now.condition.now view.now.index.now.table.now.rows number).lo }
+    requires number { number < length (rows_in view.now) }
+    ensures { result ≡ int_le threshold (value_in view.now number).lo }
 {
     is_at_most(threshold, view.value(number).lo)
 }
@@ -64,8 +63,8 @@ fn is_high(view: &View<'_>, number: u32, threshold: i128) -> bool
 // Whether the upper end of a point isn't above a threshold.
 fn is_low(view: &View<'_>, number: u32, threshold: i128) -> bool
     requires condition { IsCondition view.now.condition.now }
-    requires number { number < length view.now.index.now.table.now.rows }
-    ensures { result ≡ int_le (ends_by (placed_ends view.now.placed.now) view.now.base.now view.now.condition.now view.now.index.now.table.now.rows number).hi threshold }
+    requires number { number < length (rows_in view.now) }
+    ensures { result ≡ int_le (value_in view.now number).hi threshold }
 {
     is_at_most(view.value(number).hi, threshold)
 }
@@ -79,8 +78,8 @@ fn is_at_most(a: i128, b: i128) -> bool
 /// The number from 1 of the first of some points whose lower end isn't below a threshold, and 0 where there is none.
 pub fn first_low(view: &View<'_>, numbers: &[u32], threshold: i128) -> u32
     requires condition { IsCondition view.now.condition.now }
-    requires below { All (λ number. number < length view.now.index.now.table.now.rows) numbers.now }
-    ensures { result ≡ point_number (find (λ i. int_le threshold (ends_by (placed_ends view.now.placed.now) view.now.base.now view.now.condition.now view.now.index.now.table.now.rows i).lo) numbers.now) }
+    requires below { All (λ number. number < length (rows_in view.now)) numbers.now }
+    ensures { result ≡ point_number (find (λ i. int_le threshold (value_in view.now i).lo) numbers.now) }
 {
     for at in 0..numbers.len() {
         if is_high(view, numbers[at], threshold) {
@@ -93,8 +92,8 @@ pub fn first_low(view: &View<'_>, numbers: &[u32], threshold: i128) -> u32
 /// The number from 1 of the first of some points whose upper end isn't above a threshold, and 0 where there is none.
 pub fn first_high(view: &View<'_>, numbers: &[u32], threshold: i128) -> u32
     requires condition { IsCondition view.now.condition.now }
-    requires below { All (λ number. number < length view.now.index.now.table.now.rows) numbers.now }
-    ensures { result ≡ point_number (find (λ i. int_le (ends_by (placed_ends view.now.placed.now) view.now.base.now view.now.condition.now view.now.index.now.table.now.rows i).hi threshold) numbers.now) }
+    requires below { All (λ number. number < length (rows_in view.now)) numbers.now }
+    ensures { result ≡ point_number (find (λ i. int_le (value_in view.now i).hi threshold) numbers.now) }
 {
     for at in 0..numbers.len() {
         if is_low(view, numbers[at], threshold) {
