@@ -50,7 +50,7 @@ found-number p Q (n ∷ ns) q h = by (p n) refl (λ k. found-number p Q ns (All-
     by true e more = (n, refl, e, All-head Q n ns q)
     by false e more = more (sym (ap (λ t. t || list_any p ns) e) ∙ h)
 
-any-of-map : (p : Ends → Bool) (f : ℕ → Ends) (ns : List ℕ) → list_any p (map f ns) ≡ list_any (λ i. p (f i)) ns
+pub any-of-map : (p : Ends → Bool) (f : ℕ → Ends) (ns : List ℕ) → list_any p (map f ns) ≡ list_any (λ i. p (f i)) ns
 any-of-map p f [] = refl
 any-of-map p f (n ∷ ns) = ap (λ t. p (f n) || t) (any-of-map p f ns)
 
@@ -77,10 +77,10 @@ module _ (le : ℕ → ℕ → Bool) (same : (i : ℕ) → le i i ≡ true) (tot
       let f = found-number p Q (n ∷ ns) q any in
       (f.0, f.1, AllPass-from_list_all (λ j. le j f.0) (n ∷ ns) f.2, f.3)
 
-le-true : (a b : ℤ) → int_le a b ≡ true → a ≤ℤ b
+pub le-true : (a b : ℤ) → int_le a b ≡ true → a ≤ℤ b
 le-true a b h = record { le = T_from_true (int_le a b) h }
 
-true-le : (a b : ℤ) → a ≤ℤ b → int_le a b ≡ true
+pub true-le : (a b : ℤ) → a ≤ℤ b → int_le a b ≡ true
 true-le a b h = by (int_le a b) refl
   where
     by : (t : Bool) → int_le a b ≡ t → t ≡ true
@@ -107,12 +107,12 @@ lowest f Q ns some q =
     (r.0, r.1, (λ k d l. le-true (f r.0) (f (get_or ns k d)) (r.2 k d l)), r.3)
 
 -- ---- more by what is higher, or lower
-narrowest-is : (s : Surface) (a b : Ends) → at_narrowest s a.lo b.hi ≡ low_end s a -ℤ high_end s b
+narrowest-is : (s : Surface) (a b : Ends) → at_narrowest s a.lo b.hi ≡ low_end s a.lo -ℤ high_end s b.hi
 narrowest-is (Plane d p) a b = refl
 narrowest-is (Axis d p) a b = refl
 narrowest-is (Ball p) a b = refl
 
-pub more-by : (s : Surface) (t : ℤ) (a a' b b' : Ends) → low_end s a ≤ℤ low_end s a' → high_end s b' ≤ℤ high_end s b → passes_by_more s t a b ≡ true → passes_by_more s t a' b' ≡ true
+pub more-by : (s : Surface) (t : ℤ) (a a' b b' : Ends) → low_end s a.lo ≤ℤ low_end s a'.lo → high_end s b'.hi ≤ℤ high_end s b.hi → passes_by_more s t a b ≡ true → passes_by_more s t a' b' ≡ true
 more-by s t a a' b b' h k m =
     let u = narrowest-is s a b in
     let v = narrowest-is s a' b' in
@@ -135,7 +135,7 @@ some-number p (n ∷ ns) h = omega arith
 both : (P Q : ℕ → Type 0) (ns : List ℕ) → All P ns → All Q ns → All (λ i. P i × Q i) ns
 both P Q ns h k i d l = (h i d l, k i d l)
 
-all-onward : (p q : Ends → Bool) (vs : List Ends) → ((v : Ends) → p v ≡ true → q v ≡ true) → list_all p vs ≡ true → list_all q vs ≡ true
+pub all-onward : (p q : Ends → Bool) (vs : List Ends) → ((v : Ends) → p v ≡ true → q v ≡ true) → list_all p vs ≡ true → list_all q vs ≡ true
 all-onward p q vs f h = list_all-from_AllPass q vs (λ k d l. f (get_or vs k d) (AllPass-from_list_all p vs h k d l))
 
 module _ (b : PlacedEnds) (base : V3) (rows : List Row) (c : Condition) where
@@ -167,8 +167,8 @@ module _ (b : PlacedEnds) (base : V3) (rows : List Row) (c : Condition) where
       (ap (λ i. value_outside c.surface lo hi (E i)) (number-is o f.0 f.1) ∙ f.2)
   pair-refutes (Spread t) is h =
       let s : Surface = c.surface in
-      let up : ℕ → ℤ = λ i. low_end s (E i) in
-      let down : ℕ → ℤ = λ i. high_end s (E i) in
+      let up : ℕ → ℤ = λ i. low_end s (E i).lo in
+      let down : ℕ → ℤ = λ i. high_end s (E i).hi in
       let outer : ℕ → Bool = λ i. list_any (λ w. passes_by_more s t (E i) w) (map E points) in
       let any : list_any outer points ≡ true = sym (spread-is s t (map E points) (map E features) ∙ any-of-map (λ v. list_any (λ w. passes_by_more s t v w) (map E points)) E points) ∙ h in
       let some : 0 < length points = some-number outer points any in
@@ -186,7 +186,7 @@ module _ (b : PlacedEnds) (base : V3) (rows : List Row) (c : Condition) where
   pair-refutes (Contact hi) is h = sym (contact-is c.surface hi is (map E points) (map E features)) ∙ h
   pair-refutes (HugInner t) is h =
       let s : Surface = c.surface in
-      let down : ℕ → ℤ = λ i. high_end s (E i) in
+      let down : ℕ → ℤ = λ i. high_end s (E i).hi in
       let outer : ℕ → Bool = λ i. list_all (λ v. passes_by_more s t v (E i)) (map E points) in
       let any : list_any outer features ≡ true = sym (inner-is s t is (map E points) (map E features) ∙ any-of-map (λ w. list_all (λ v. passes_by_more s t v w) (map E points)) E features) ∙ h in
       let near = lowest down (Stays (is_of_feature c)) features (some-number outer features any) (all-stay (is_of_feature c)) in
@@ -199,7 +199,7 @@ module _ (b : PlacedEnds) (base : V3) (rows : List Row) (c : Condition) where
       (ap (λ x. list_all (λ v. passes_by_more s t v (E x)) (map E points)) (number-is q near.0 near.1) ∙ m)
   pair-refutes (HugOuter t) is h =
       let s : Surface = c.surface in
-      let up : ℕ → ℤ = λ i. low_end s (E i) in
+      let up : ℕ → ℤ = λ i. low_end s (E i).lo in
       let outer : ℕ → Bool = λ i. list_all (λ v. passes_by_more s t (E i) v) (map E points) in
       let any : list_any outer features ≡ true = sym (outer-is s t is (map E points) (map E features) ∙ any-of-map (λ w. list_all (λ v. passes_by_more s t w v) (map E points)) E features) ∙ h in
       let far = highest up (Stays (is_of_feature c)) features (some-number outer features any) (all-stay (is_of_feature c)) in

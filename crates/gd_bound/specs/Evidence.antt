@@ -1,6 +1,8 @@
 -- When evidence refutes a condition over a box of placements, and which evidence is the first.
-use Rattle.std.specs.Prelude.{ℕ, zero, suc, ℤ, pos, ◌-◌, ◌==◌, ◌&&◌, Bool, Option, Some, None, List, filter, map, find, int_le, option_map, slice_get, if◌then◌else◌}
+use Rattle.std.specs.Prelude.{ℕ, zero, suc, ℤ, pos, ◌-◌, ◌==◌, ◌&&◌, Bool, Option, Some, None, List, filter}
+use Rattle.std.specs.Prelude.{map, find, int_le, option_map, slice_get, if◌then◌else◌}
 use Rattle.std.specs.List.{list_all}
+use Rattle.gd_bound.specs.declared.pair.Pair.{Pair}
 use Rattle.gd_cells.specs.declared.cell.Evidence.{Evidence}
 use Rattle.gd_points.specs.Index.{numbers_where, passes}
 use Rattle.gd_points.specs.declared.table.Row.{Row}
@@ -40,27 +42,36 @@ passes_by_more s t a b = is_more (at_narrowest s a.lo b.hi) t (length2_of s)
 
 -- a and b are numbers of points, e of the ends of their values, and vs the values of the condition's points
 unfoldable pub refutes_by : Condition → List Row → Demand → (ℕ → Ends) → List Ends → ℕ → ℕ → Bool
-refutes_by c rows (Within lo hi) e vs a b = (names (belongs c) rows a && (b == 0)) && value_outside c.surface lo hi (e (a - 1))
-refutes_by c rows (Spread t) e vs a b = (names (belongs c) rows a && names (belongs c) rows b) && passes_by_more c.surface t (e (a - 1)) (e (b - 1))
-refutes_by c rows (Contact hi) e vs a b = ((a == 0) && (b == 0)) && list_all (λ v. is_more v.lo hi (length2_of c.surface)) vs
-refutes_by c rows (HugInner slack) e vs a b = (names (is_of_feature c) rows b && (a == 0)) && list_all (λ v. passes_by_more c.surface slack v (e (b - 1))) vs
-refutes_by c rows (HugOuter slack) e vs a b = (names (is_of_feature c) rows a && (b == 0)) && list_all (λ v. passes_by_more c.surface slack (e (a - 1)) v) vs
+refutes_by c rows (Within lo hi) e vs a b =
+    (names (belongs c) rows a && (b == 0)) && value_outside c.surface lo hi (e (a - 1))
+refutes_by c rows (Spread t) e vs a b =
+    (names (belongs c) rows a && names (belongs c) rows b)
+    && passes_by_more c.surface t (e (a - 1)) (e (b - 1))
+refutes_by c rows (Contact hi) e vs a b =
+    ((a == 0) && (b == 0)) && list_all (λ v. is_more v.lo hi (length2_of c.surface)) vs
+refutes_by c rows (HugInner slack) e vs a b =
+    (names (is_of_feature c) rows b && (a == 0))
+    && list_all (λ v. passes_by_more c.surface slack v (e (b - 1))) vs
+refutes_by c rows (HugOuter slack) e vs a b =
+    (names (is_of_feature c) rows a && (b == 0))
+    && list_all (λ v. passes_by_more c.surface slack (e (a - 1)) v) vs
 
 -- evidence refutes a condition, whatever the number of the condition that it names
 unfoldable pub refuted_at : PlacedEnds → V3 → List Row → Condition → Evidence → Bool
-refuted_at b base rows c e = refutes_by c rows c.demand (ends_by b base c rows) (map (ends_at b base c) (filter (belongs c) rows)) e.a e.b
+refuted_at b base rows c e =
+    refutes_by c rows c.demand (ends_by b base c rows) (map (ends_at b base c) (filter (belongs c) rows)) e.a e.b
 
 -- ---- the first evidence
 -- the lower end of a value, and the upper end, as they are compared: of squared distances the roots
-abbrev pub low_end : Surface → Ends → ℤ
-low_end (Plane direction point) e = e.lo
-low_end (Axis direction point) e = floor_root e.lo
-low_end (Ball point) e = floor_root e.lo
+abbrev pub low_end : Surface → ℤ → ℤ
+low_end (Plane direction point) lo = lo
+low_end (Axis direction point) lo = floor_root lo
+low_end (Ball point) lo = floor_root lo
 
-abbrev pub high_end : Surface → Ends → ℤ
-high_end (Plane direction point) e = e.hi
-high_end (Axis direction point) e = ceil_root e.hi
-high_end (Ball point) e = ceil_root e.hi
+abbrev pub high_end : Surface → ℤ → ℤ
+high_end (Plane direction point) hi = hi
+high_end (Axis direction point) hi = ceil_root hi
+high_end (Ball point) hi = ceil_root hi
 
 -- the first number at which f is the greatest, and the first at which it is the least
 abbrev pub first_highest : (ℕ → ℤ) → List ℕ → Option ℕ
@@ -74,24 +85,25 @@ abbrev pub point_number : Option ℕ → ℕ
 point_number None = 0
 point_number (Some i) = suc i
 
--- two numbers of points
-pub record Pair : Type 0 where
-  pub a : ℕ
-  pub b : ℕ
-
--- ns are the numbers of the condition's points, and all those of its feature: the first point that lies outside; the one with the greatest lower end and that with the least upper end; none; a point of the feature
+-- the first point outside; that with the greatest lower end and that with the least upper end; none; one of the feature
 unfoldable pub first_pair : Surface → Demand → (ℕ → Ends) → List ℕ → List ℕ → Pair
 first_pair s (Within lo hi) e ns all = record { a = point_number (find (λ i. value_outside s lo hi (e i)) ns); b = 0 }
-first_pair s (Spread t) e ns all = record { a = point_number (first_highest (λ i. low_end s (e i)) ns); b = point_number (first_lowest (λ i. high_end s (e i)) ns) }
+first_pair s (Spread t) e ns all = record {
+  a = point_number (first_highest (λ i. low_end s (e i).lo) ns);
+  b = point_number (first_lowest (λ i. high_end s (e i).hi) ns);
+}
 first_pair s (Contact hi) e ns all = record { a = 0; b = 0 }
-first_pair s (HugInner slack) e ns all = record { a = 0; b = point_number (first_lowest (λ i. high_end s (e i)) all) }
-first_pair s (HugOuter slack) e ns all = record { a = point_number (first_highest (λ i. low_end s (e i)) all); b = 0 }
+first_pair s (HugInner slack) e ns all =
+    record { a = 0; b = point_number (first_lowest (λ i. high_end s (e i).hi) all) }
+first_pair s (HugOuter slack) e ns all =
+    record { a = point_number (first_highest (λ i. low_end s (e i).lo) all); b = 0 }
 
 -- where a condition is refuted, the pair that says so
 unfoldable pub refuting_pair : PlacedEnds → V3 → List Row → Condition → Option Pair
 refuting_pair b base rows c =
     if condition_refuted b base rows c
-    then Some (first_pair c.surface c.demand (ends_by b base c rows) (numbers_where (belongs c) rows) (numbers_where (is_of_feature c) rows))
+    then Some (first_pair c.surface c.demand (ends_by b base c rows) (numbers_where (belongs c) rows)
+    (numbers_where (is_of_feature c) rows))
     else None
 
 -- the first evidence against the condition of a number

@@ -29,7 +29,7 @@ pub record IsGreatest (end : Ends → ℤ) (vs : List Ends) (x : ℤ) : Type 0 w
   pub above : All (λ v. end v ≤ℤ x) vs
   pub reached : Any (λ v. end v ≡ x) vs
 
--- the least lower end and the least upper end, and the greatest of both: the least value lies between the one two, and the greatest between the other
+-- the least lower and the least upper end, between which the least value lies, and the greatest of both
 pub record AreExtremes (vs : List Ends) (least greatest : Ends) : Type 0 where
   pub least_lo : IsLeast (λ v. v.lo) vs least.lo
   pub least_hi : IsLeast (λ v. v.hi) vs least.hi
@@ -43,7 +43,7 @@ lower a b = record { lo = int_min a.lo b.lo; hi = int_min a.hi b.hi }
 abbrev pub upper : Ends → Ends → Ends
 upper a b = record { lo = int_max a.lo b.lo; hi = int_max a.hi b.hi }
 
--- ---- two values: by how much the one may pass the other, and by how much it does at least. Of squared distances the roots are taken
+-- ---- by how much one value may pass another, and does at least; of squared distances the roots are taken
 abbrev pub at_widest : Surface → ℤ → ℤ → ℤ
 at_widest (Plane direction point) hi lo = hi -ℤ lo
 at_widest (Axis direction point) hi lo = ceil_root hi -ℤ floor_root lo

@@ -2,9 +2,9 @@
 ghost use Rattle.std.specs.Prelude.{◌≡◌, ◌<◌, [], length, map, IfSome, IsNone};
 ghost use Rattle.std.specs.List.{All};
 ghost use Rattle.gd_quat.specs.Formulas.{ends};
-ghost use Rattle.gd_zone.specs.Boxes.{placed_ends};
 ghost use Rattle.gd_zone.specs.Conditions.{IsCondition};
-ghost use Rattle.gd_zone.specs.Extremes.{AreExtremes, ends_by, lower, upper};
+ghost use Rattle.gd_zone.specs.Extremes.{AreExtremes, lower, upper};
+ghost use Rattle.gd_zone.specs.Seen.{rows_in, value_in};
 ghost use Rattle.gd_zone.specs.Values.{IsSized};
 
 use crate::view::View;
@@ -54,11 +54,9 @@ fn with(found: Extremes, value: Iv) -> Extremes
 /// The extremes of the values of some points, by their numbers. `None` where there are no points.
 pub fn extremes_of(view: &View<'_>, numbers: &[u32]) -> Option<Extremes>
     requires condition { IsCondition view.now.condition.now }
-    requires below { All (λ number. number < length view.now.index.now.table.now.rows) numbers.now }
+    requires below { All (λ number. number < length (rows_in view.now)) numbers.now }
     ensures none { IsNone result → numbers.now ≡ [] }
-    ensures some { IfSome result (λ x. AreExtremes
-        (map (ends_by (placed_ends view.now.placed.now) view.now.base.now view.now.condition.now
-        view.now.index.now.table.now.rows) numbers.now)
+    ensures some { IfSome result (λ x. AreExtremes (map (value_in view.now) numbers.now)
         (ends x.least) (ends x.greatest)) }
     ensures least { IfSome result (λ x. IsSized view.now.condition.now.surface x.least) }
     ensures greatest { IfSome result (λ x. IsSized view.now.condition.now.surface x.greatest) }

@@ -1,15 +1,15 @@
 // When a condition holds over a box of placements, by its written test.
-ghost use Rattle.std.specs.Prelude.{◌≡◌, ◌<◌, ◌≤◌, ◌^◌, ◌≤ℤ◌, ◌&&◌, ◌||◌, int_le, pos, true, length, map, unsigned_abs};
+ghost use Rattle.std.specs.Prelude.{◌≡◌, ◌<◌, ◌≤◌, ◌^◌, ◌≤ℤ◌, ◌&&◌, ◌||◌, int_le, pos, true, map, unsigned_abs};
 ghost use Rattle.std.specs.List.{All, list_all};
 ghost use Rattle.std.specs.Option.{IfSome};
 ghost use Rattle.gd_base.specs.Limits.{COORDINATE};
-ghost use Rattle.gd_points.specs.Index.{numbers_where};
 ghost use Rattle.gd_quat.specs.Formulas.{ends};
 ghost use Rattle.gd_quat.specs.Placements.{IsOnGrid, IsPlacement, Placement, placement_of};
 ghost use Rattle.gd_vec.specs.Vector.{IsWithin};
 ghost use Rattle.gd_zone.specs.Boxes.{HoldsPlacement, IsPlaced, grid_placed, placed_ends};
-ghost use Rattle.gd_zone.specs.Conditions.{IsBound, IsCondition, IsPair, IsSurface, Meets, belongs, is_of_feature, length2_of};
-ghost use Rattle.gd_zone.specs.Extremes.{at_widest, ends_by, value_within};
+ghost use Rattle.gd_zone.specs.Conditions.{IsBound, IsCondition, IsPair, IsSurface, Meets, length2_of};
+ghost use Rattle.gd_zone.specs.Extremes.{at_widest, value_within};
+ghost use Rattle.gd_zone.specs.Seen.{feature_in, points_in, value_in};
 ghost use Rattle.gd_zone.specs.Tests.{condition_holds, distance_within, is_at_least, is_at_most, passes, plane_within};
 ghost use Rattle.gd_zone.specs.Tests.{square_bound, surface_holds};
 ghost use Rattle.gd_zone.specs.Values.{IsSized, IsSizedEnd};
@@ -116,7 +116,7 @@ fn is_within(surface: &Surface, lo: Option<i64>, hi: Option<i64>, value: Iv) -> 
     }
 }
 
-// Whether one value passes another by `t` half units at most, by the upper end of the one and the lower end of the other.
+// Whether one value passes another by `t` half units at most, by the upper end of the one and the lower of the other.
 fn passes_at_most(surface: &Surface, hi: i128, lo: i128, t: i64) -> bool
     requires surface { IsSurface surface.now }
     requires hi { IsSizedEnd surface.now hi }
@@ -133,10 +133,8 @@ fn all_within(view: &View<'_>, lo: Option<i64>, hi: Option<i64>) -> bool
     requires lo { IfSome lo IsBound }
     requires hi { IfSome hi IsBound }
     ensures { result ≡ surface_holds view.now.condition.now.surface (Within lo hi)
-        (map (ends_by (placed_ends view.now.placed.now) view.now.base.now view.now.condition.now view.now.index.now.table.now.rows)
-        (numbers_where (belongs view.now.condition.now) view.now.index.now.table.now.rows))
-        (map (ends_by (placed_ends view.now.placed.now) view.now.base.now view.now.condition.now view.now.index.now.table.now.rows)
-        (numbers_where (is_of_feature view.now.condition.now) view.now.index.now.table.now.rows)) }
+        (map (value_in view.now) (points_in view.now))
+        (map (value_in view.now) (feature_in view.now)) }
 {
     let numbers = view.points();
     for at in 0..numbers.len() {
@@ -153,10 +151,8 @@ fn spread_holds(view: &View<'_>, t: i64) -> bool
     requires condition { IsCondition view.now.condition.now }
     requires t { IsBound t }
     ensures { result ≡ surface_holds view.now.condition.now.surface (Spread t)
-        (map (ends_by (placed_ends view.now.placed.now) view.now.base.now view.now.condition.now view.now.index.now.table.now.rows)
-        (numbers_where (belongs view.now.condition.now) view.now.index.now.table.now.rows))
-        (map (ends_by (placed_ends view.now.placed.now) view.now.base.now view.now.condition.now view.now.index.now.table.now.rows)
-        (numbers_where (is_of_feature view.now.condition.now) view.now.index.now.table.now.rows)) }
+        (map (value_in view.now) (points_in view.now))
+        (map (value_in view.now) (feature_in view.now)) }
 {
     match extremes_of(view, view.points()) {
         None => true,
@@ -170,10 +166,8 @@ fn contact_holds(view: &View<'_>, hi: i64) -> bool
     requires hi { IsBound hi }
     requires pair { IsPair view.now.condition.now.surface (Contact hi) }
     ensures { result ≡ surface_holds view.now.condition.now.surface (Contact hi)
-        (map (ends_by (placed_ends view.now.placed.now) view.now.base.now view.now.condition.now view.now.index.now.table.now.rows)
-        (numbers_where (belongs view.now.condition.now) view.now.index.now.table.now.rows))
-        (map (ends_by (placed_ends view.now.placed.now) view.now.base.now view.now.condition.now view.now.index.now.table.now.rows)
-        (numbers_where (is_of_feature view.now.condition.now) view.now.index.now.table.now.rows)) }
+        (map (value_in view.now) (points_in view.now))
+        (map (value_in view.now) (feature_in view.now)) }
 {
     match extremes_of(view, view.points()) {
         None => false,
@@ -187,10 +181,8 @@ fn inner_holds(view: &View<'_>, slack: i64) -> bool
     requires slack { IsBound slack }
     requires pair { IsPair view.now.condition.now.surface (HugInner slack) }
     ensures { result ≡ surface_holds view.now.condition.now.surface (HugInner slack)
-        (map (ends_by (placed_ends view.now.placed.now) view.now.base.now view.now.condition.now view.now.index.now.table.now.rows)
-        (numbers_where (belongs view.now.condition.now) view.now.index.now.table.now.rows))
-        (map (ends_by (placed_ends view.now.placed.now) view.now.base.now view.now.condition.now view.now.index.now.table.now.rows)
-        (numbers_where (is_of_feature view.now.condition.now) view.now.index.now.table.now.rows)) }
+        (map (value_in view.now) (points_in view.now))
+        (map (value_in view.now) (feature_in view.now)) }
 {
     let surface = &view.condition.surface;
     match (
@@ -209,10 +201,8 @@ fn outer_holds(view: &View<'_>, slack: i64) -> bool
     requires slack { IsBound slack }
     requires pair { IsPair view.now.condition.now.surface (HugOuter slack) }
     ensures { result ≡ surface_holds view.now.condition.now.surface (HugOuter slack)
-        (map (ends_by (placed_ends view.now.placed.now) view.now.base.now view.now.condition.now view.now.index.now.table.now.rows)
-        (numbers_where (belongs view.now.condition.now) view.now.index.now.table.now.rows))
-        (map (ends_by (placed_ends view.now.placed.now) view.now.base.now view.now.condition.now view.now.index.now.table.now.rows)
-        (numbers_where (is_of_feature view.now.condition.now) view.now.index.now.table.now.rows)) }
+        (map (value_in view.now) (points_in view.now))
+        (map (value_in view.now) (feature_in view.now)) }
 {
     let surface = &view.condition.surface;
     match (
@@ -234,10 +224,8 @@ fn outer_holds(view: &View<'_>, slack: i64) -> bool
 fn demand_holds(view: &View<'_>) -> bool
     requires condition { IsCondition view.now.condition.now }
     ensures { result ≡ surface_holds view.now.condition.now.surface view.now.condition.now.demand
-        (map (ends_by (placed_ends view.now.placed.now) view.now.base.now view.now.condition.now view.now.index.now.table.now.rows)
-        (numbers_where (belongs view.now.condition.now) view.now.index.now.table.now.rows))
-        (map (ends_by (placed_ends view.now.placed.now) view.now.base.now view.now.condition.now view.now.index.now.table.now.rows)
-        (numbers_where (is_of_feature view.now.condition.now) view.now.index.now.table.now.rows)) }
+        (map (value_in view.now) (points_in view.now))
+        (map (value_in view.now) (feature_in view.now)) }
 {
     match view.condition.demand {
         Demand::Within { lo, hi } => all_within(view, lo, hi),
@@ -271,7 +259,8 @@ fn all_hold(conditions: &[Condition], index: &PointIndex<'_>, base: &V3, placed:
     requires conditions { All IsCondition conditions.now }
     requires base { IsWithin COORDINATE base.now }
     requires placed { IsPlaced placed.now }
-    ensures { result ≡ list_all (condition_holds (placed_ends placed.now) base.now index.now.table.now.rows) conditions.now }
+    ensures { result
+        ≡ list_all (condition_holds (placed_ends placed.now) base.now index.now.table.now.rows) conditions.now }
 {
     for at in 0..conditions.len() {
         if !condition_holds(&conditions[at], index, base, placed) {
@@ -290,7 +279,8 @@ pub fn holds(conditions: &[Condition], index: &PointIndex<'_>, base: &V3, a: &As
     requires shift { IsWithin (2 ^ 45) a.now.shift }
     requires first { IsWithin (2 ^ 45) a.now.first }
     requires second { IsWithin (2 ^ 45) a.now.second }
-    ensures test { result ≡ list_all (condition_holds (grid_placed a.now) base.now index.now.table.now.rows) conditions.now }
+    ensures test { result
+        ≡ list_all (condition_holds (grid_placed a.now) base.now index.now.table.now.rows) conditions.now }
     ensures met { result ≡ true → All (Meets (placement_of a.now) base.now index.now.table.now.rows) conditions.now }
 {
     all_hold(conditions, index, base, &placed_at(a))

@@ -7,7 +7,8 @@ ghost use Rattle.gd_vec.specs.Vector.{IsWithin};
 ghost use Rattle.gd_zone.specs.Boxes.{IsPlaced, placed_ends};
 ghost use Rattle.gd_zone.specs.Conditions.{IsSurface};
 ghost use Rattle.gd_zone.specs.Tests.{demanded_ends};
-ghost use Rattle.gd_zone.specs.Values.{EnclosesValue, IsSized, along, across, from_point, image_ends, squares_of, still_image};
+ghost use Rattle.gd_zone.specs.Values.{EnclosesValue, IsSized, along, across, from_point, image_ends, squares_of};
+ghost use Rattle.gd_zone.specs.Values.{still_image};
 ghost use Rattle.gd_zone.specs.Values.{surface_value, value_ends};
 
 use crate::condition::{Condition, Demand, Surface};
@@ -40,7 +41,8 @@ pub fn demanded(condition: &Condition, placed: &Placed, v: &V3) -> Iv
     requires surface { IsSurface condition.now.surface }
     requires placed { IsPlaced placed.now }
     requires v { IsWithin (2 ^ 27) v.now }
-    ensures ends { ends result ≡ demanded_ends condition.now.surface condition.now.demand (placed_ends placed.now) condition.now.offset v.now }
+    ensures ends { ends result ≡ demanded_ends condition.now.surface condition.now.demand (placed_ends placed.now)
+        condition.now.offset v.now }
     ensures size { IsSized condition.now.surface result }
 {
     match (condition.surface, condition.demand) {

@@ -1,7 +1,7 @@
 // The points of a condition, as a box of placements shows them.
 ghost use Rattle.std.specs.Prelude.{◌≡◌, ◌<◌, ◌≤◌, ◌^◌, ◌-ℤ◌, length, unsigned_abs};
 ghost use Rattle.std.specs.List.{All};
-ghost use Rattle.gd_base.specs.Limits.{COORDINATE};
+ghost use Rattle.gd_base.specs.Limits.{COORDINATE, POINTS};
 ghost use Rattle.gd_points.specs.Columns.{AreColumns};
 ghost use Rattle.gd_points.specs.Index.{numbers_where};
 ghost use Rattle.gd_quat.specs.Formulas.{ends};
@@ -29,6 +29,7 @@ pub struct View<'a> {
     columns: Columns<'a>,
     ghost based: { IsWithin COORDINATE base.now },
     ghost held: { IsPlaced placed.now },
+    ghost few: { length index.now.table.now.rows ≤ POINTS },
     ghost within: { All (λ row. IsWithin COORDINATE row.at) index.now.table.now.rows },
     ghost same: { AreColumns columns.x.now columns.y.now columns.z.now index.now.table.now.rows },
 }
@@ -71,13 +72,15 @@ impl<'a> View<'a> {
 
     /// The numbers of all points of the condition's feature, ascending.
     pub fn feature(&self) -> &[u32]
-        ensures all { result.now ≡ numbers_where (is_of_feature self.now.condition.now) self.now.index.now.table.now.rows }
+        ensures all { result.now
+            ≡ numbers_where (is_of_feature self.now.condition.now) self.now.index.now.table.now.rows }
         ensures below { All (λ number. number < length self.now.index.now.table.now.rows) result.now }
     {
         self.index.rows_of(self.condition.feature)
     }
 
-    /// The value of a point by its number, in the units of `value`: for a spread along a direction only of the turned point.
+    /// The value of a point by its number, in the units of `value`. For a spread along a direction it is that of the
+    /// turned point alone.
     #[inline]
     pub fn value(&self, number: u32) -> Iv
         requires condition { IsCondition self.now.condition.now }
@@ -108,7 +111,8 @@ impl<'a> View<'a> {
     #[inline]
     fn place(&self, at: usize) -> Place
         requires { at < length self.now.index.now.table.now.rows }
-        ensures value { record { x = result.x; y = result.y; z = result.z } ≡ (row_at self.now.index.now.table.now.rows at).at }
+        ensures value { record { x = result.x; y = result.y; z = result.z }
+            ≡ (row_at self.now.index.now.table.now.rows at).at }
         ensures x { unsigned_abs result.x ≤ COORDINATE }
         ensures y { unsigned_abs result.y ≤ COORDINATE }
         ensures z { unsigned_abs result.z ≤ COORDINATE }
@@ -120,7 +124,8 @@ impl<'a> View<'a> {
     #[inline]
     fn read(&self, at: usize) -> Place
         requires { at < length self.now.index.now.table.now.rows }
-        ensures value { record { x = result.x; y = result.y; z = result.z } ≡ (row_at self.now.index.now.table.now.rows at).at }
+        ensures value { record { x = result.x; y = result.y; z = result.z }
+            ≡ (row_at self.now.index.now.table.now.rows at).at }
         ensures size { IsWithin COORDINATE (row_at self.now.index.now.table.now.rows at).at }
     {
         Place {
