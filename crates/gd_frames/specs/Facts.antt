@@ -20,6 +20,7 @@ use Rattle.gd_vec.specs.Vector.{IsWithin}
 abbrev pub IsUpTo : ℕ → Option ℕ → Type 0
 IsUpTo limit number = IfSome number (λ n. n ≤ limit)
 
+-- a part may be turned in any way, or with ratios of at most 2^-k, with k up to 20
 abbrev pub IsTurn : Turn → Type 0
 IsTurn turn.All = Unit {0}
 IsTurn (turn.Within k) = k ≤ TURN
@@ -69,7 +70,8 @@ pub record IsJudged (features : List FeatureDef) (datums : List DatumDef) (rows 
   pub contacts : have_contacts features datums rows 0 f.datums ≡ true
 
 -- the groups of a frame are small, with the earlier frames
-pub record IsSmall (features : List FeatureDef) (datums : List DatumDef) (rows : List Row) (earlier : List Frame) (f : Frame) : Type 0 where
+pub record IsSmall (features : List FeatureDef) (datums : List DatumDef) (rows : List Row) (earlier : List Frame)
+    (f : Frame) : Type 0 where
   pub offsets : frame_offsets features f ≤ OFFSETS
   pub conditions : group_conditions features datums rows earlier f ≤ CONDITIONS
   pub lower : lower_conditions features datums rows f ≤ CONDITIONS
@@ -79,6 +81,7 @@ abbrev pub AreSmall : List FeatureDef → List DatumDef → List Row → List Fr
 AreSmall features datums rows frames =
     (k : ℕ) (d : Frame) → k < length frames → IsSmall features datums rows (take k frames) (get_or frames k d)
 
+-- the numbers of the top level are in their ranges, no table's name stands twice in its list, and each table is as above
 pub record IsFile (points : Table) (file : File) : Type 0 where
   pub turn : IsTurn file.turn
   pub shift : file.shift ≤ SHIFT

@@ -10,7 +10,7 @@ frame = [{name = 'top', kind = 'flatness', features = ['s'], tolerance = 10}]
 feature = [{name = 's', shape = 'plane', direction = [0, 0, 1], point = [0, 0, 0]}]
 ";
 
-const BORE: &str = "feature,group,x,y,z
+const BORED: &str = "feature,group,x,y,z
 base,1,0,0,0\nbase,2,400000,0,0\nbase,3,0,400000,0\nbore,0,200500,200000,0\n";
 
 const EVERYTHING: &str = "version = 1
@@ -82,14 +82,14 @@ back,1,300000,2,50000\nback,2,1700000,0,50000\nleft,1,3,500000,50000
 h1,0,200020,199990,0\nh1,0,200030,199990,100000\nh2,0,1799990,200015,0\nh2,0,1799990,200020,100000
 h3,0,200000,800040,0\nh3,0,200000,800040,100000\nh4,0,1800050,800000,0\nh4,0,1800050,800000,100000\n";
 
-const PLATE_MOVED: &str = "feature,group,x,y,z
+const MOVED: &str = "feature,group,x,y,z
 base,1,100000,100000,0\nbase,2,1900000,100000,4\nbase,3,1000000,900000,6
 back,1,300000,2,50000\nback,2,1700000,0,50000\nleft,1,3,500000,50000
 h1,0,200020,199990,0\nh1,0,200030,199990,100000\nh2,0,1799990,200015,0\nh2,0,1799990,200020,100000
 h3,0,200000,800040,0\nh3,0,200000,800040,100000\nh4,0,1800500,800000,0\nh4,0,1800500,800000,100000\n";
 
 // The base has two contact groups.
-const PLATE_TWO: &str = "feature,group,x,y,z
+const TWICE: &str = "feature,group,x,y,z
 base,1,100000,100000,0\nbase,2,1900000,100000,4\nbase,2,1000000,900000,6
 back,1,300000,2,50000\nback,2,1700000,0,50000\nleft,1,3,500000,50000
 h1,0,200020,199990,0\nh2,0,1799990,200015,0\nh3,0,200000,800040,0\nh4,0,1800050,800000,0\n";
@@ -119,7 +119,7 @@ const HOLE: &str = "feature,group,x,y,z
 d,1,1000,0,0\nd,2,-1000,0,0\nd,3,0,1000,0\nd,4,0,-1000,0
 h,0,10518,0,0\nh,0,9518,0,0\nh,0,10018,500,0\nh,0,10018,-500,0\n";
 
-const DATUM_HOLE: &str = "version = 1
+const DATUM: &str = "version = 1
 turn = 20
 feature = [{name = 'd', shape = 'hole', direction = [0, 0, 1], point = [0, 0, 0]},";
 
@@ -130,14 +130,14 @@ centre = [982, 0, 0]
 datum = [{name = 'D', feature = 'd', slack = 2, boundary = 1960}]
 ";
 
-const AT_MMC_5: &str = "
+const AT_FIVE: &str = "
 {name = 'h', shape = 'hole', direction = [0, 0, 1], point = [10000, 0, 0], mmc = 5}]
 shift = 5
 centre = [982, 0, 0]
 datum = [{name = 'D', feature = 'd', slack = 2, boundary = 1960}]
 ";
 
-const TWO_HOLES: &str = "feature,group,x,y,z
+const PAIR: &str = "feature,group,x,y,z
 d,1,1000,0,0\nd,2,-1000,0,0\nd,3,0,1000,0\nd,4,0,-1000,0\nh1,0,10008,0,0\nh2,0,19992,0,0\n";
 
 const TWO_AXES: &str = "
@@ -165,95 +165,64 @@ frame = [
 ]
 ";
 
+// Whole files, with `;` for the end of a line: what a reader tells, the points, and the text. A word in capitals stands for
+// the text of that name.
+const WHOLE_FILES: &str = "\
+read 1 0 1 | SADDLE | LEAST
+read 2 2 2 | BORED | EVERYTHING
+read 1 0 1 | CIRCLE | ROUND
+read 7 3 1 | PLATE | version = 1; turn = 6; shift = 14; POSITION
+read 7 3 1 | MOVED | version = 1; turn = 20; shift = 4; POSITION
+29 1 3 | TWICE | version = 1; turn = 6; shift = 14; POSITION
+read 2 1 1 | HOLE | DATUM AT_MMC; frame = [{name = 'm', kind = 'position', features = ['h'], tolerance = 10, material = 'mmc', datums = ['D(M)']}]
+read 2 1 1 | HOLE | DATUM AT_MMC; frame = [{name = 'm', kind = 'position', features = ['h'], tolerance = 10, material = 'mmc', datums = ['D']}]
+read 2 1 1 | HOLE | DATUM AT_FIVE; frame = [{name = 'm', kind = 'position', features = ['h'], tolerance = 10, material = 'mmc', datums = ['D(M)']}]
+read 3 1 2 | PAIR | DATUM TWO_AXES; frame = [{name = 'f1', kind = 'position', features = ['h1'], tolerance = 10, datums = ['D(M)']}, {name = 'f2', kind = 'position', features = ['h2'], tolerance = 10, datums = ['D(M)']}]
+read 3 1 2 | PAIR | DATUM TWO_AXES; frame = [{name = 'f1', kind = 'position', features = ['h1'], tolerance = 10, datums = ['D(M)'], separate = true}, {name = 'f2', kind = 'position', features = ['h2'], tolerance = 10, datums = ['D(M)'], separate = true}]
+read 3 1 1 | PAIR | DATUM TWO_AXES; frame = [{name = 'pat', kind = 'position', features = ['h1', 'h2'], tolerance = 100, datums = ['D(M)'], lower = 10, lower_datums = ['D(M)']}]
+read 2 1 2 | SEAT | RUNOUT";
+
+fn points_named(name: &str) -> &str {
+    match name {
+        "SADDLE" => SADDLE,
+        "BORED" => BORED,
+        "CIRCLE" => CIRCLE,
+        "PLATE" => PLATE,
+        "MOVED" => MOVED,
+        "TWICE" => TWICE,
+        "HOLE" => HOLE,
+        "PAIR" => PAIR,
+        _ => SEAT,
+    }
+}
+
+fn filled(alloc: Global, case: &str) -> Result<String, AllocError> {
+    let pieces = [
+        ("LEAST", LEAST),
+        ("EVERYTHING", EVERYTHING),
+        ("ROUND", ROUND),
+        ("POSITION", POSITION),
+        ("DATUM", DATUM),
+        ("AT_MMC", AT_MMC),
+        ("AT_FIVE", AT_FIVE),
+        ("TWO_AXES", TWO_AXES),
+        ("RUNOUT", RUNOUT),
+    ];
+    let mut text = case.replace(alloc, "; ", "\n")?;
+    for (name, piece) in pieces {
+        text = text.replace(alloc, name, piece)?;
+    }
+    Ok(text)
+}
+
 #[test]
 fn whole_files(rt: HostRuntime) -> Result<(), Fail> {
-    let cases = [
-        ("the least", SADDLE, LEAST, "", "", "read 1 0 1"),
-        ("everything", BORE, EVERYTHING, "", "", "read 2 2 2"),
-        ("circularity", CIRCLE, ROUND, "", "", "read 1 0 1"),
-        (
-            "a plate",
-            PLATE,
-            "version = 1\nturn = 6\nshift = 14",
-            POSITION,
-            "",
-            "read 7 3 1",
-        ),
-        (
-            "a hole that is off",
-            PLATE_MOVED,
-            "version = 1\nturn = 20\nshift = 4",
-            POSITION,
-            "",
-            "read 7 3 1",
-        ),
-        (
-            "a base that touches twice",
-            PLATE_TWO,
-            "version = 1\nturn = 6\nshift = 14",
-            POSITION,
-            "",
-            "29 1 3",
-        ),
-        (
-            "at maximum material, the datum too",
-            HOLE,
-            DATUM_HOLE,
-            AT_MMC,
-            "frame = [{name = 'm', kind = 'position', features = ['h'], tolerance = 10, material = 'mmc', datums = ['D(M)']}]",
-            "read 2 1 1",
-        ),
-        (
-            "at maximum material",
-            HOLE,
-            DATUM_HOLE,
-            AT_MMC,
-            "frame = [{name = 'm', kind = 'position', features = ['h'], tolerance = 10, material = 'mmc', datums = ['D']}]",
-            "read 2 1 1",
-        ),
-        (
-            "a tolerance that is wider than the hole",
-            HOLE,
-            DATUM_HOLE,
-            AT_MMC_5,
-            "frame = [{name = 'm', kind = 'position', features = ['h'], tolerance = 10, material = 'mmc', datums = ['D(M)']}]",
-            "read 2 1 1",
-        ),
-        (
-            "two frames of one group",
-            TWO_HOLES,
-            DATUM_HOLE,
-            TWO_AXES,
-            "frame = [
-{name = 'f1', kind = 'position', features = ['h1'], tolerance = 10, datums = ['D(M)']},
-{name = 'f2', kind = 'position', features = ['h2'], tolerance = 10, datums = ['D(M)']}]",
-            "read 3 1 2",
-        ),
-        (
-            "two frames, each by itself",
-            TWO_HOLES,
-            DATUM_HOLE,
-            TWO_AXES,
-            "frame = [
-{name = 'f1', kind = 'position', features = ['h1'], tolerance = 10, datums = ['D(M)'], separate = true},
-{name = 'f2', kind = 'position', features = ['h2'], tolerance = 10, datums = ['D(M)'], separate = true}]",
-            "read 3 1 2",
-        ),
-        (
-            "a composite frame",
-            TWO_HOLES,
-            DATUM_HOLE,
-            TWO_AXES,
-            "frame = [
-{name = 'pat', kind = 'position', features = ['h1', 'h2'], tolerance = 100, datums = ['D(M)'], lower = 10, lower_datums = ['D(M)']}]",
-            "read 3 1 1",
-        ),
-        ("runouts", SEAT, RUNOUT, "", "", "read 2 1 2"),
-    ];
-    for (name, points, head, middle, tail, want) in cases {
-        let text = format!(in rt.alloc(); "{head}{middle}{tail}\n")?;
-        let got = told(rt.alloc(), points, text.as_bytes())?;
-        assert_eq!(rt; got.as_str(), want, "{name}");
+    for line in WHOLE_FILES.lines() {
+        let (want, case) = line.split_once(" | ").unwrap_or((line, ""));
+        let (points, case) = case.split_once(" | ").unwrap_or((case, ""));
+        let text = filled(rt.alloc(), case)?;
+        let got = told(rt.alloc(), points_named(points), text.as_bytes())?;
+        assert_eq!(rt; got.as_str(), want, "{line}");
     }
     Ok(())
 }
