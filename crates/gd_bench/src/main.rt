@@ -1,12 +1,14 @@
-// The program: it repeats one call of the arithmetic over drawn numbers, and prints a checksum of the answers.
+// The program: it repeats one call over drawn numbers, or the reading of a frame file, and prints a checksum of the answers.
 #![tactic(auto)]
 
 mod directions;
 mod draws;
+mod frames;
 mod rows;
 
 use directions::{Direction, Point, WideDirection};
 use draws::{Drawn, draw_all};
+use frames::{frames_text, points_text, read_once, table_of};
 use rows::{Factors, Fraction, Radicand, Row, Sides, Square};
 use std::process::ExitCode;
 use std::time::Instant;
@@ -48,6 +50,23 @@ fn measure<T: Row + Drawn + Drop>(rt: &HostRuntime, turns: u32) -> io::Result<Me
     Ok(Measured { sum, nanoseconds })
 }
 
+/// The turns of reading a frame file at all its limits.
+fn measure_frames(rt: &HostRuntime, turns: u32) -> io::Result<Option<Measured>> {
+    let alloc = rt.alloc();
+    let points = points_text(alloc)?;
+    let Some(table) = table_of(alloc, points.as_str()) else {
+        return Ok(None);
+    };
+    let text = frames_text(alloc)?;
+    let start = Instant::now(rt)?;
+    let mut sum = 0;
+    for _ in 0..turns {
+        sum = read_once(alloc, text.as_str(), &table, sum);
+    }
+    let nanoseconds = start.elapsed(rt)?.as_nanos();
+    Ok(Some(Measured { sum, nanoseconds }))
+}
+
 /// The kernel of a name, or `None` where none has it.
 fn named(rt: &HostRuntime, name: &str, turns: u32) -> io::Result<Option<Measured>> {
     Ok(Some(match name {
@@ -58,6 +77,7 @@ fn named(rt: &HostRuntime, name: &str, turns: u32) -> io::Result<Option<Measured
         "cmp_root" => measure::<Sides>(rt, turns)?,
         "dot_128" => measure::<WideDirection>(rt, turns)?,
         "dot_64" => measure::<Direction>(rt, turns)?,
+        "frames" => return measure_frames(rt, turns),
         _ => return Ok(None),
     }))
 }

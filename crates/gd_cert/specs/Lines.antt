@@ -1,5 +1,7 @@
--- What one line of a certificate tells, by its words. In a line the tests have this order: its kind and its number (42), its words (44), and how numbers are spelled (43).
-use Rattle.std.specs.Prelude.{ℕ, Bool, false, List, [], ◌∷◌, Option, Some, None, Result, Ok, Err, length, nat_le, ◌==◌, ◌&&◌, ◌||◌, if◌then◌else◌, codes}
+-- What one line of a certificate tells, by its words. In a line the tests have this order: its kind and its number
+-- (42), its words (44), and how numbers are spelled (43).
+use Rattle.std.specs.Prelude.{ℕ, Bool, false, List, [], ◌∷◌, Option, Some, None, Result, Ok, Err, length, nat_le, ◌==◌}
+use Rattle.std.specs.Prelude.{◌&&◌, ◌||◌, if◌then◌else◌, codes}
 use Rattle.gd_cells.specs.Grid.{MOST_DIMS}
 use Rattle.gd_base.specs.declared.verdict.Reason.{Reason}
 use Rattle.gd_base.specs.declared.verdict.Reason.TheVariants as reason
@@ -7,7 +9,8 @@ use Rattle.gd_cells.specs.declared.node.Node.{Node}
 use Rattle.gd_cells.specs.declared.node.Node.TheVariants.{Split, Refuted, Left}
 use Rattle.gd_cert.specs.Certificates.{Body, Accept, Heading, Plain, Probe}
 use Rattle.gd_cert.specs.Text.{format, version}
-use Rattle.gd_cert.specs.Words.{and_then_read, is_requirement, is_word, number_below, number_of, or_rule, signed_numbers}
+use Rattle.gd_cert.specs.Words.{and_then_read, is_requirement, is_word, number_below, number_of, or_rule}
+use Rattle.gd_cert.specs.Words.{signed_numbers}
 use Rattle.gd_cert.specs.declared.rule.Rule.{Rule}
 use Rattle.gd_cert.specs.declared.rule.Rule.TheVariants as rule
 use Rattle.gd_base.specs.declared.verdict.Counts.{Counts}
@@ -34,7 +37,8 @@ heading_in words = Err rule.Head
 
 -- a word and one number below a limit
 abbrev pub sized_in : List ℕ → ℕ → List (List ℕ) → Result ℕ Rule
-sized_in name limit (word ∷ number ∷ []) = if is_word word name then or_rule (number_below limit number) rule.Head else Err rule.Head
+sized_in name limit (word ∷ number ∷ []) = if is_word word name then or_rule (number_below limit number) rule.Head else
+    Err rule.Head
 sized_in name limit words = Err rule.Head
 
 -- `share N`
@@ -43,7 +47,8 @@ share_in words = sized_in (codes "share") 1000001 words
 
 -- `groups G`, from 1 on
 abbrev pub told_in : List (List ℕ) → Result ℕ Rule
-told_in words = and_then_read (sized_in (codes "groups") 300001 words) (λ told. if told == 0 then Err rule.Head else Ok told)
+told_in words = and_then_read (sized_in (codes "groups") 300001 words)
+    (λ told. if told == 0 then Err rule.Head else Ok told)
 
 -- what stands behind the number of a group
 abbrev pub verdict_in : List (List ℕ) → Option Stage
@@ -82,7 +87,8 @@ abbrev pub place_in : List (List ℕ) → Result Body Rule
 place_in [] = Err rule.Words
 place_in (root ∷ at) =
     if nat_le 2 (length at) && nat_le (length at) MOST_DIMS
-    then and_then_read (or_rule (number_of root) rule.Number) (λ r. and_then_read (or_rule (signed_numbers at) rule.Number) (λ xs. Ok (Accept r xs)))
+    then and_then_read (or_rule (number_of root) rule.Number)
+    (λ r. and_then_read (or_rule (signed_numbers at) rule.Number) (λ xs. Ok (Accept r xs)))
     else Err rule.Words
 
 -- `w R n n ..`

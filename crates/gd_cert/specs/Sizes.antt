@@ -33,12 +33,16 @@ LiesWithin c line body = line + 1 + length (body_lines body) ≤ length (lines c
 
 -- each group lies within
 abbrev pub GroupsLieWithin : Type 0
-GroupsLieWithin = (c : Certificate) (k line : ℕ) (body : Body) → slice_get (first_lines 5 c.groups) k ≡ Some line → slice_get c.groups k ≡ Some body → LiesWithin c line body
+GroupsLieWithin = (c : Certificate) (k line : ℕ) (body : Body) → slice_get (first_lines 5 c.groups) k ≡ Some line
+    → slice_get c.groups k ≡ Some body → LiesWithin c line body
 
 -- each group lies within by the line that it keeps
 abbrev pub KeptLinesLieWithin : Type 0
-KeptLinesLieWithin = (c : Cert) → KeepsLines c → All (λ (group : CertGroup). LiesWithin (certificate_of c) group.line (body_of group.body)) c.groups.items
+KeptLinesLieWithin = (c : Cert) → KeepsLines c
+    → All (λ (group : CertGroup). LiesWithin (certificate_of c) group.line (body_of group.body)) c.groups.items
 
--- the text of a certificate of one group, whose tree has at most 2,000,004 lines, has at most the 134,217,728 bytes that a file may have
+-- the text of a certificate of one group, whose tree has at most 2,000,004 lines, has at most the 134,217,728 bytes
+-- that a file may have
 abbrev pub OneGroupIsShort : Type 0
-OneGroupIsShort = (c : Certificate) (body : Body) → IsInBounds c → c.groups ≡ body ∷ [] → length (tree_of body) ≤ 2000004 → length (text c) ≤ FILE_BYTES
+OneGroupIsShort = (c : Certificate) (body : Body) → IsInBounds c → c.groups ≡ body ∷ []
+    → length (tree_of body) ≤ 2000004 → length (text c) ≤ FILE_BYTES

@@ -3,7 +3,9 @@ ghost use Rattle.std.specs.Prelude.{◌≡◌, OnOk, false, true, map};
 ghost use Rattle.gd_base.specs.Causes.{Gives};
 ghost use Rattle.gd_cert.specs.Certificates.{Reject, body_of, certificate_of, Open};
 ghost use Rattle.gd_cert.specs.Drafts.{draft_of, line_cause, texts};
-ghost use Rattle.gd_cert.specs.Reading.{certificate_in, empty_draft, last_fault, lines_of, with_body, with_counts, with_group, with_heading, with_line, with_node, with_share, with_title, with_told, with_tree_line, with_witness, without_tree};
+ghost use Rattle.gd_cert.specs.Reading.{certificate_in, empty_draft, last_fault, lines_of, with_body, with_counts};
+ghost use Rattle.gd_cert.specs.Reading.{with_group, with_heading, with_line, with_node, with_share, with_title};
+ghost use Rattle.gd_cert.specs.Reading.{with_told, with_tree_line, with_witness, without_tree};
 ghost use Rattle.gd_cert.specs.declared.cert.CertGroup.{CertGroup};
 
 use crate::cert::{Cert, CertBody, CertGroup, Head};
@@ -19,7 +21,8 @@ use gd_cells::Node;
 use std::alloc::Global;
 use std::mem;
 
-/// What the lines so far tell: the head, the groups that are whole, which line comes next, on which line the last group begins, and the lines of its tree.
+/// What the lines so far tell: the head, the groups that are whole, which line comes next, on which line the last group
+/// begins, and the lines of its tree.
 #[derive(Drop)]
 pub(crate) struct CertDraft {
     head: Head,
@@ -55,7 +58,8 @@ impl CertDraft {
         line: u32,
         words: &[&[u8]],
     ) -> Result<(), LineFault>
-        ensures { Gives line_cause (λ x. draft_of self.new) result (with_line line (texts words.now) (draft_of self.old)) }
+        ensures { Gives line_cause (λ x. draft_of self.new) result (with_line line (texts words.now)
+            (draft_of self.old)) }
     {
         match self.stage {
             Stage::Title => self.take_title(words),
@@ -82,7 +86,8 @@ impl CertDraft {
     }
 
     fn take_heading(&mut self, alloc: Global, words: &[&[u8]]) -> Result<(), LineFault>
-        ensures { Gives line_cause (λ x. draft_of self.new) result (with_heading (texts words.now) (draft_of self.old)) }
+        ensures { Gives line_cause (λ x. draft_of self.new) result (with_heading (texts words.now)
+            (draft_of self.old)) }
     {
         self.head = read_heading(alloc, words)?;
         self.stage = Stage::Share;
@@ -106,7 +111,8 @@ impl CertDraft {
     }
 
     fn take_group(&mut self, line: u32, words: &[&[u8]]) -> Result<(), LineFault>
-        ensures { Gives line_cause (λ x. draft_of self.new) result (with_group line (texts words.now) (draft_of self.old)) }
+        ensures { Gives line_cause (λ x. draft_of self.new) result (with_group line (texts words.now)
+            (draft_of self.old)) }
     {
         self.stage = read_group(self.groups.len() + 1, words)?;
         self.begun = line;
@@ -114,7 +120,8 @@ impl CertDraft {
     }
 
     fn take_witness(&mut self, alloc: Global, words: &[&[u8]]) -> Result<(), LineFault>
-        ensures { Gives line_cause (λ x. draft_of self.new) result (with_witness (texts words.now) (draft_of self.old)) }
+        ensures { Gives line_cause (λ x. draft_of self.new) result (with_witness (texts words.now)
+            (draft_of self.old)) }
     {
         let body = read_witness(alloc, words)?;
         self.add_body(body)?;
@@ -134,7 +141,9 @@ impl CertDraft {
         line: u32,
         words: &[&[u8]],
     ) -> Result<(), LineFault>
-        ensures { Gives line_cause (λ x. draft_of self.new) result (with_tree_line line (texts words.now) false (Reject self.old.tree.items) (draft_of self.old)) }
+        ensures { Gives line_cause
+            (λ x. draft_of self.new) result (with_tree_line line (texts words.now) false (Reject self.old.tree.items)
+            (draft_of self.old)) }
     {
         if !is_behind_tree(words) {
             return self.take_node(false, words);
@@ -150,7 +159,9 @@ impl CertDraft {
         words: &[&[u8]],
         counts: Counts,
     ) -> Result<(), LineFault>
-        ensures { Gives line_cause (λ x. draft_of self.new) result (with_tree_line line (texts words.now) true (Open counts self.old.tree.items) (draft_of self.old)) }
+        ensures { Gives line_cause
+            (λ x. draft_of self.new) result (with_tree_line line (texts words.now) true (Open counts
+            self.old.tree.items) (draft_of self.old)) }
     {
         if !is_behind_tree(words) {
             return self.take_node(true, words);
@@ -170,7 +181,8 @@ impl CertDraft {
 
     // Takes the line behind a group that is whole.
     fn take_behind(&mut self, body: CertBody, line: u32, words: &[&[u8]]) -> Result<(), LineFault>
-        ensures { Gives line_cause (λ x. draft_of self.new) result (with_group line (texts words.now) (with_body (body_of body) (draft_of self.old))) }
+        ensures { Gives line_cause (λ x. draft_of self.new) result (with_group line (texts words.now)
+            (with_body (body_of body) (draft_of self.old))) }
     {
         self.add_body(body)?;
         self.take_group(line, words)
@@ -178,7 +190,8 @@ impl CertDraft {
 
     #[inline(always)]
     fn take_node(&mut self, undecided: bool, words: &[&[u8]]) -> Result<(), LineFault>
-        ensures { Gives line_cause (λ x. draft_of self.new) result (with_node undecided (texts words.now) (draft_of self.old)) }
+        ensures { Gives line_cause (λ x. draft_of self.new) result (with_node undecided (texts words.now)
+            (draft_of self.old)) }
     {
         let node = read_node(undecided, words)?;
         self.tree.push(node)?;

@@ -9,8 +9,6 @@ mod lengths;
 mod line;
 mod number;
 mod read;
-#[cfg(test)]
-mod read_tests;
 mod rule;
 mod stage;
 mod title;

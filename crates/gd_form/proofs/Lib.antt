@@ -1,6 +1,13 @@
+pub mod AxisSizes
 pub mod Blocks
 pub mod Decisions
 mod KnownValues
 pub mod Leading
+pub mod LineLoops
+pub mod Near
+pub mod PlaceFacts
+pub mod Radius
+pub mod RootExtremes
+pub mod Roots
 pub mod Sizes
 pub mod Steps

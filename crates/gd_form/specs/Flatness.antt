@@ -1,5 +1,5 @@
 -- Flatness: a feature conforms where a zone between two parallel planes, as wide as the tolerance, holds all its points.
-use Rattle.std.specs.Prelude.{ℕ, pos, ◌*◌, ◌≤◌, ◌*ℤ◌, List}
+use Rattle.std.specs.Prelude.{ℕ, pos, ◌≤◌, List}
 use Rattle.std.specs.List.{All}
 use Rattle.gd_dir.specs.Directions.{LeadsAlong}
 use Rattle.gd_int.specs.Comparisons.{AtMost}
@@ -7,10 +7,9 @@ use Rattle.gd_points.specs.declared.table.Row.{Row}
 use Rattle.gd_vec.specs.Vector.{difference, dot_of, norm2_of}
 use Rattle.gd_vec.specs.declared.vector.V3.{V3}
 
--- two points are no further apart along n than the tolerance: twice their distance along n is at most twice the
--- tolerance, both times the length of n
+-- two points are no further apart along n than the tolerance, both times the length of n
 abbrev pub IsWithinTolerance : ℕ → V3 → V3 → V3 → Type 0
-IsWithinTolerance tolerance n a b = AtMost (pos 2 *ℤ dot_of n (difference a b)) (pos (2 * tolerance)) (norm2_of n)
+IsWithinTolerance tolerance n a b = AtMost (dot_of n (difference a b)) (pos tolerance) (norm2_of n)
 
 -- the zone normal to n that is as wide as the tolerance holds all points: no two of them are further apart along n
 abbrev pub HasZone : List Row → ℕ → V3 → Type 0

@@ -1,5 +1,11 @@
+pub mod Axes
+pub mod AxisBoxes
+pub mod AxisLaws
+pub mod AxisTask
+pub mod AxisTests
 pub mod FlatTask
 pub mod FlatTests
 pub mod Flatness
 pub mod Laws
 pub mod Leading
+pub mod Zones

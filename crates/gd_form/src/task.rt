@@ -73,20 +73,11 @@ impl<'a> Task for FormTask<'a> {
     }
 
     fn refutes(&self, cell: &Cell) -> Option<Evidence> {
-        first_evidence_in(
-            &face_box(cell),
-            &self.points,
-            self.tolerance,
-        )
+        first_evidence_in(&face_box(cell), &self.points, self.tolerance)
     }
 
     fn refutes_at(&self, cell: &Cell, evidence: &Evidence) -> bool {
-        is_refuted_at(
-            &face_box(cell),
-            &self.points,
-            self.tolerance,
-            evidence,
-        )
+        is_refuted_at(&face_box(cell), &self.points, self.tolerance, evidence)
     }
 
     fn centre(&self, cell: &Cell) -> Witness {

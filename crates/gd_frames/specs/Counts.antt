@@ -1,6 +1,7 @@
 -- How many conditions and local offsets the group of a frame has. The tables that make the conditions have as many.
 use Rattle.std.specs.Prelude.{ℕ, ◌+◌, Bool, true, false, not, List, length, Option, Some, None, is_some, slice_get, nat_eq, nat_lt, ◌&&◌, ◌||◌, Result, Ok, Err, if◌then◌else◌}
 use Rattle.std.specs.List.{sum_by}
+use Rattle.gd_base.specs.Limits.{CONDITIONS, OFFSETS}
 use Rattle.gd_frames.specs.Combinations.{begin, feature_of}
 use Rattle.gd_frames.specs.Groups.{contact_groups, groups}
 use Rattle.gd_keys.specs.declared.rule.Rule.{Rule}
@@ -78,6 +79,6 @@ lower_conditions features datums rows f =
 -- a group has at most two local offsets and at most 4,096 conditions
 abbrev pub limits : List FeatureDef → List DatumDef → List Row → List Frame → Frame → Result (Unit {0}) Rule
 limits features datums rows earlier f =
-    if nat_lt 2 (frame_offsets features f) then Err rule.Offsets
-    else if nat_lt 4096 (group_conditions features datums rows earlier f) || nat_lt 4096 (lower_conditions features datums rows f) then Err rule.Conditions
+    if nat_lt OFFSETS (frame_offsets features f) then Err rule.Offsets
+    else if nat_lt CONDITIONS (group_conditions features datums rows earlier f) || nat_lt CONDITIONS (lower_conditions features datums rows f) then Err rule.Conditions
     else Ok tt

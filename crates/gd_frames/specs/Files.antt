@@ -1,14 +1,12 @@
 -- The frame file that bytes stand for, or its first fault: the top level, then all features, all datums and all frames,
 -- and at last the limits of the groups.
-use Rattle.std.specs.Prelude.{ℕ, ◌+◌, ◌≡◌, List, [], ◌∷◌, ◌++◌, length, Result, Ok, Err}
+use Rattle.std.specs.Prelude.{ℕ, ◌+◌, List, [], ◌∷◌, ◌++◌, length, Result, Ok, Err}
 use Rattle.toml.specs.Data.{Members}
 use Rattle.gd_base.specs.declared.fault.InputFault.{InputFault}
-use Rattle.gd_base.specs.declared.fault.ReadFault.{ReadFault}
-use Rattle.gd_base.specs.declared.fault.ReadFault.TheVariants as read_fault
 use Rattle.gd_frames.specs.Counts.{limits}
 use Rattle.gd_frames.specs.Needs.{judged}
 use Rattle.gd_keys.specs.Documents.{document}
-use Rattle.gd_keys.specs.Rules.{fault}
+use Rattle.gd_keys.specs.Rules.{◌>>=◌, fault}
 use Rattle.gd_keys.specs.declared.rule.Rule.{Rule}
 use Rattle.gd_points.specs.Table.{Table}
 use Rattle.gd_points.specs.declared.table.Row.{Row}
@@ -18,12 +16,6 @@ use Rattle.gd_tables.specs.Listed.{Entries, no_entries, with_entry}
 use Rattle.gd_tables.specs.declared.file.DatumDef.{DatumDef}
 use Rattle.gd_tables.specs.declared.file.FeatureDef.{FeatureDef}
 use Rattle.gd_tables.specs.declared.ranges.Ranges.{Ranges}
-
--- what was read goes on, and a fault stays
-infixl 10 ◌>>=◌
-abbrev pub ◌>>=◌ : {A B : Type 0} → Result A InputFault → (A → Result B InputFault) → Result B InputFault
-(Ok x) >>= next = next x
-(Err e) >>= next = Err e
 
 -- a rule that is broken in a table is told with the place of the table
 abbrev pub in_table : {A : Type 0} → ℕ → ℕ → Result A Rule → Result A InputFault
@@ -72,12 +64,3 @@ file_in points table = do
 -- the frame file of some bytes beside a table of points
 abbrev pub frames : List ℕ → Table → Result File InputFault
 frames bytes points = in_table 0 0 (document bytes) >>= file_in points
-
--- what a reader answers: what is meant, unless memory ran out
-abbrev pub Tells : {Y : Type 0} → ReadFault → Result Y InputFault → Type 0
-Tells read_fault.Memory meant = Unit {0}
-Tells (read_fault.Input e) meant = meant ≡ Err e
-
-abbrev pub Answers : {X Y : Type 0} → (X → Y) → Result X ReadFault → Result Y InputFault → Type 0
-Answers view (Ok x) meant = meant ≡ Ok (view x)
-Answers view (Err e) meant = Tells e meant

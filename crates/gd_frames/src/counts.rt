@@ -4,21 +4,18 @@ ghost use Rattle.std.specs.Prelude.{◌≡◌, ◌+◌, min, map, length, slice_
 ghost use Rattle.std.specs.List.{sum_by};
 ghost use Rattle.gd_frames.specs.Combinations.{feature_of};
 ghost use Rattle.gd_frames.specs.Counts.{by_shape, count_at, datum_conditions, feature_conditions, feature_offsets, frame_conditions, frame_offsets, group_conditions, is_joined, is_located, joins, limits, lower_conditions, words_conditions};
-ghost use Rattle.gd_keys.specs.Rules.{Gives};
+ghost use Rattle.gd_base.specs.Causes.{Gives};
+ghost use Rattle.gd_keys.specs.Rules.{key_cause};
 ghost use Rattle.gd_tables.specs.Kinds.{frame_of};
 
 use crate::combination::{begin, feature_of};
 use crate::groups::GroupCounts;
+use gd_base::limits::{CONDITIONS, OFFSETS};
 use gd_keys::{KeyFault, Rule};
 use gd_tables::{DatumDef, DatumRef, FeatureDef, FrameDef, Kind, Shape};
 
-/// The most conditions of a group, and one more.
-const CONDITIONS: u32 = 4_096;
-
-const TOO_MANY: u32 = 4_097;
-
-/// The most local offsets of a group.
-const OFFSETS: u32 = 2;
+/// One condition more than a group may have.
+const TOO_MANY: u32 = CONDITIONS + 1;
 
 /// Nothing where the groups of a frame are within the limits, with the earlier frames of its group.
 /// Else the rule that is broken: `Offsets` or `Conditions`.
@@ -29,7 +26,7 @@ pub(crate) fn limits(
     earlier: &[FrameDef],
     frame: &FrameDef,
 ) -> Result<(), KeyFault>
-    ensures { Gives (λ _. tt) result (limits features.now datums.now counts.now.points.now.rows (map frame_of earlier.now) (frame_of frame.now)) }
+    ensures { Gives key_cause (λ _. tt) result (limits features.now datums.now counts.now.points.now.rows (map frame_of earlier.now) (frame_of frame.now)) }
 {
     if frame_offsets(features, frame) > OFFSETS {
         return Err(KeyFault::Rule(Rule::Offsets));

@@ -3,6 +3,8 @@
 
 mod combination;
 mod counts;
+#[cfg(test)]
+mod file_tests;
 mod groups;
 mod needs;
 mod read;

@@ -4,7 +4,8 @@ ghost use Rattle.std.specs.List.{list_all};
 ghost use Rattle.gd_frames.specs.Combinations.{feature_of, passes};
 ghost use Rattle.gd_frames.specs.Groups.{contact_groups};
 ghost use Rattle.gd_frames.specs.Needs.{has_boundary, has_diameter, has_numbers, has_radius, have_contacts, is_round, judged, least_contacts};
-ghost use Rattle.gd_keys.specs.Rules.{Gives};
+ghost use Rattle.gd_base.specs.Causes.{Gives};
+ghost use Rattle.gd_keys.specs.Rules.{key_cause};
 ghost use Rattle.gd_tables.specs.Kinds.{frame_of};
 
 use crate::combination::{feature_of, is_allowed};
@@ -20,7 +21,7 @@ pub(crate) fn judge(
     counts: &GroupCounts<'_>,
     frame: &FrameDef,
 ) -> Result<(), KeyFault>
-    ensures { Gives (λ _. frame_of frame.now) result (judged features.now datums.now counts.now.points.now.rows (frame_of frame.now)) }
+    ensures { Gives key_cause (λ _. frame_of frame.now) result (judged features.now datums.now counts.now.points.now.rows (frame_of frame.now)) }
 {
     if !is_allowed(features, datums, frame) {
         return Err(KeyFault::Rule(Rule::Combination));

@@ -3,9 +3,12 @@ ghost use Rattle.std.specs.Prelude.{◌≡◌, ◌<◌, ◌≤◌, ◌+◌, [], 
 ghost use Rattle.toml.specs.View.{table_view};
 ghost use Rattle.gd_frames.specs.Counts.{limits};
 ghost use Rattle.gd_frames.specs.Entries.{datums_read, features_read, frames_read, placed};
-ghost use Rattle.gd_frames.specs.Files.{Answers, and_judged, file_in, frames, in_table, limits_from, tables_from, with_datum, with_feature, with_frame};
+ghost use Rattle.gd_frames.specs.Facts.{IsFile};
+ghost use Rattle.gd_frames.specs.Files.{and_judged, file_in, frames, in_table, limits_from, tables_from, with_datum, with_feature, with_frame};
 ghost use Rattle.gd_keys.specs.Keys.{is_among};
-ghost use Rattle.gd_keys.specs.Rules.{Gives};
+ghost use Rattle.gd_base.specs.Causes.{Gives, input_cause};
+ghost use Rattle.gd_base.specs.Limits.{DATUMS, FEATURES, FRAMES};
+ghost use Rattle.gd_keys.specs.Rules.{key_cause};
 ghost use Rattle.gd_tables.specs.Grammar.{frame_in, top_in};
 ghost use Rattle.gd_tables.specs.Kinds.{file_of, frame_of};
 ghost use Rattle.gd_tables.specs.Listed.{no_entries};
@@ -25,16 +28,17 @@ use std::alloc::Global;
 use toml::Table;
 
 // The columns of faults.
-const FEATURES: u32 = 1;
+const FEATURE_COLUMN: u32 = 1;
 
-const DATUMS: u32 = 2;
+const DATUM_COLUMN: u32 = 2;
 
-const FRAMES: u32 = 3;
+const FRAME_COLUMN: u32 = 3;
 
 /// The frame file (docs/FORMATS.md, "The frame file") that stands for the bytes beside a table of points, or its first
 /// fault. `Memory` is free.
 pub fn read_frames(alloc: Global, bytes: &[u8], table: &PointTable) -> Result<FrameFile, ReadFault>
-    ensures { Answers file_of result (frames bytes.now table.now) }
+    ensures file { Gives input_cause file_of result (frames bytes.now table.now) }
+    ensures facts { IfOk result (λ file. IsFile table.now (file_of file)) }
 {
     match read_document(alloc, bytes) {
         Ok(document) => read_file(alloc, table, &document),
@@ -54,7 +58,7 @@ fn placed(fault: KeyFault, row: u32, column: u32) -> ReadFault
 
 #[tactic(auto, unfolding(crate::specs::Files::file_in))]
 fn read_file(alloc: Global, points: &PointTable, table: &Table) -> Result<FrameFile, ReadFault>
-    ensures { Answers file_of result (file_in points.now (table_view table.now)) }
+    ensures { Gives input_cause file_of result (file_in points.now (table_view table.now)) }
 {
     let top = read_top_level(alloc, table)?;
     let features = read_features(alloc, points, &top.ranges, top.features.as_slice())?;
@@ -75,10 +79,10 @@ fn read_file(alloc: Global, points: &PointTable, table: &Table) -> Result<FrameF
 }
 
 fn read_top_level<'a>(alloc: Global, table: &'a Table) -> Result<Top<'a>, ReadFault>
-    ensures top { Answers seen_top result (in_table 0 0 (top_in (table_view table.now))) }
-    ensures features { IfOk result (λ top. length top.features.items ≤ 1024) }
-    ensures datums { IfOk result (λ top. length top.datums.items ≤ 64) }
-    ensures frames { IfOk result (λ top. length top.frames.items ≤ 256) }
+    ensures top { Gives input_cause seen_top result (in_table 0 0 (top_in (table_view table.now))) }
+    ensures features { IfOk result (λ top. length top.features.items ≤ FEATURES) }
+    ensures datums { IfOk result (λ top. length top.datums.items ≤ DATUMS) }
+    ensures frames { IfOk result (λ top. length top.frames.items ≤ FRAMES) }
 {
     match read_top(alloc, table) {
         Ok(top) => Ok(top),
@@ -94,15 +98,15 @@ fn add_feature(
     features: &mut Listed<FeatureDef>,
     table: &Table,
 ) -> Result<(), ReadFault>
-    requires { length features.old.items.items < 1024 }
+    requires { length features.old.items.items < FEATURES }
     ensures names { OnOk result (length features.new.names.keys ≡ length features.old.names.keys + 1) }
     ensures items { OnOk result (length features.new.items.items ≡ length features.old.items.items + 1) }
-    ensures feature { Answers (λ _. features_read features.new) result (in_table (length features.old.items.items + 1) 1 (with_feature points.now ranges.now (features_read features.old) (table_view table.now))) }
+    ensures feature { Gives input_cause (λ _. features_read features.new) result (in_table (length features.old.items.items + 1) 1 (with_feature points.now ranges.now (features_read features.old) (table_view table.now))) }
 {
     let row = features.items.len() as u32 + 1;
     match read_feature(alloc, points, ranges, features, table) {
         Ok((name, stated)) => Ok(features.add(name, stated)?),
-        Err(fault) => Err(placed(fault, row, FEATURES)),
+        Err(fault) => Err(placed(fault, row, FEATURE_COLUMN)),
     }
 }
 
@@ -112,9 +116,9 @@ fn read_features(
     ranges: &Ranges,
     tables: &[&Table],
 ) -> Result<Listed<FeatureDef>, ReadFault>
-    requires { length tables.now ≤ 1024 }
-    ensures features { Answers features_read result (tables_from 1 (with_feature points.now ranges.now) no_entries (map (λ t. table_view t.now) tables.now)) }
-    ensures few { IfOk result (λ features. length features.names.keys ≤ 1024) }
+    requires { length tables.now ≤ FEATURES }
+    ensures features { Gives input_cause features_read result (tables_from 1 (with_feature points.now ranges.now) no_entries (map (λ t. table_view t.now) tables.now)) }
+    ensures few { IfOk result (λ features. length features.names.keys ≤ FEATURES) }
 {
     let mut features = Listed::new(alloc);
     for table in tables {
@@ -134,11 +138,11 @@ fn add_datum(
     datums: &mut Listed<DatumDef>,
     table: &Table,
 ) -> Result<(), ReadFault>
-    requires few { length datums.old.items.items < 1024 }
-    requires features { length features.now.names.keys ≤ 1024 }
+    requires few { length datums.old.items.items < DATUMS }
+    requires features { length features.now.names.keys ≤ FEATURES }
     ensures names { OnOk result (length datums.new.names.keys ≡ length datums.old.names.keys + 1) }
     ensures items { OnOk result (length datums.new.items.items ≡ length datums.old.items.items + 1) }
-    ensures datum { Answers (λ _. datums_read datums.new) result (in_table (length datums.old.items.items + 1) 2 (with_datum features.now.names.keys ranges.now (datums_read datums.old) (table_view table.now))) }
+    ensures datum { Gives input_cause (λ _. datums_read datums.new) result (in_table (length datums.old.items.items + 1) 2 (with_datum features.now.names.keys ranges.now (datums_read datums.old) (table_view table.now))) }
 {
     let row = datums.items.len() as u32 + 1;
     match read_datum(alloc, features, ranges, datums, table) {
@@ -146,7 +150,7 @@ fn add_datum(
             let name = again(alloc, &datum.name)?;
             Ok(datums.add(name, datum)?)
         }
-        Err(fault) => Err(placed(fault, row, DATUMS)),
+        Err(fault) => Err(placed(fault, row, DATUM_COLUMN)),
     }
 }
 
@@ -156,10 +160,10 @@ fn read_datums(
     ranges: &Ranges,
     tables: &[&Table],
 ) -> Result<Listed<DatumDef>, ReadFault>
-    requires few { length tables.now ≤ 64 }
-    requires features { length features.now.names.keys ≤ 1024 }
-    ensures datums { Answers datums_read result (tables_from 2 (with_datum features.now.names.keys ranges.now) no_entries (map (λ t. table_view t.now) tables.now)) }
-    ensures few { IfOk result (λ datums. length datums.names.keys ≤ 64) }
+    requires few { length tables.now ≤ DATUMS }
+    requires features { length features.now.names.keys ≤ FEATURES }
+    ensures datums { Gives input_cause datums_read result (tables_from 2 (with_datum features.now.names.keys ranges.now) no_entries (map (λ t. table_view t.now) tables.now)) }
+    ensures few { IfOk result (λ datums. length datums.names.keys ≤ DATUMS) }
 {
     let mut datums = Listed::new(alloc);
     for table in tables {
@@ -180,9 +184,9 @@ fn read_right_frame(
     earlier: &Listed<FrameDef>,
     table: &Table,
 ) -> Result<FrameDef, KeyFault>
-    requires features { length features.now.names.keys ≤ 1024 }
-    requires datums { length datums.now.names.keys ≤ 64 }
-    ensures frame { Gives frame_of result (and_judged features.now.items.items datums.now.items.items counts.now.points.now.rows (frame_in features.now.names.keys datums.now.names.keys earlier.now.names.keys (table_view table.now))) }
+    requires features { length features.now.names.keys ≤ FEATURES }
+    requires datums { length datums.now.names.keys ≤ DATUMS }
+    ensures frame { Gives key_cause frame_of result (and_judged features.now.items.items datums.now.items.items counts.now.points.now.rows (frame_in features.now.names.keys datums.now.names.keys earlier.now.names.keys (table_view table.now))) }
     ensures new { IfOk result (λ f. is_among earlier.now.names.keys f.name ≡ false) }
 {
     let frame = read_frame(alloc, features, datums, earlier, table)?;
@@ -204,12 +208,12 @@ fn add_frame(
     frames: &mut Listed<FrameDef>,
     table: &Table,
 ) -> Result<(), ReadFault>
-    requires few { length frames.old.items.items < 1024 }
-    requires features { length features.now.names.keys ≤ 1024 }
-    requires datums { length datums.now.names.keys ≤ 64 }
+    requires few { length frames.old.items.items < FRAMES }
+    requires features { length features.now.names.keys ≤ FEATURES }
+    requires datums { length datums.now.names.keys ≤ DATUMS }
     ensures names { OnOk result (length frames.new.names.keys ≡ length frames.old.names.keys + 1) }
     ensures items { OnOk result (length frames.new.items.items ≡ length frames.old.items.items + 1) }
-    ensures frame { Answers (λ _. frames_read frames.new) result (in_table (length frames.old.items.items + 1) 3 (with_frame (features_read features.now) (datums_read datums.now) counts.now.points.now.rows (frames_read frames.old) (table_view table.now))) }
+    ensures frame { Gives input_cause (λ _. frames_read frames.new) result (in_table (length frames.old.items.items + 1) 3 (with_frame (features_read features.now) (datums_read datums.now) counts.now.points.now.rows (frames_read frames.old) (table_view table.now))) }
 {
     let row = frames.items.len() as u32 + 1;
     match read_right_frame(alloc, features, datums, counts, frames, table) {
@@ -217,7 +221,7 @@ fn add_frame(
             let name = again(alloc, &frame.name)?;
             Ok(frames.add(name, frame)?)
         }
-        Err(fault) => Err(placed(fault, row, FRAMES)),
+        Err(fault) => Err(placed(fault, row, FRAME_COLUMN)),
     }
 }
 
@@ -228,11 +232,11 @@ fn read_all_frames(
     counts: &GroupCounts<'_>,
     tables: &[&Table],
 ) -> Result<Listed<FrameDef>, ReadFault>
-    requires few { length tables.now ≤ 256 }
-    requires features { length features.now.names.keys ≤ 1024 }
-    requires datums { length datums.now.names.keys ≤ 64 }
-    ensures frames { Answers frames_read result (tables_from 3 (with_frame (features_read features.now) (datums_read datums.now) counts.now.points.now.rows) no_entries (map (λ t. table_view t.now) tables.now)) }
-    ensures few { IfOk result (λ frames. length frames.items.items ≤ 256) }
+    requires few { length tables.now ≤ FRAMES }
+    requires features { length features.now.names.keys ≤ FEATURES }
+    requires datums { length datums.now.names.keys ≤ DATUMS }
+    ensures frames { Gives input_cause frames_read result (tables_from 3 (with_frame (features_read features.now) (datums_read datums.now) counts.now.points.now.rows) no_entries (map (λ t. table_view t.now) tables.now)) }
+    ensures few { IfOk result (λ frames. length frames.items.items ≤ FRAMES) }
 {
     let mut frames = Listed::new(alloc);
     for table in tables {
@@ -252,12 +256,12 @@ fn test_frame(
     earlier: &[FrameDef],
     frame: &FrameDef,
 ) -> Result<(), ReadFault>
-    requires { length earlier.now ≤ 256 }
-    ensures { Answers (λ u. u) result (in_table (length (map frame_of earlier.now) + 1) 3 (limits features.now datums.now counts.now.points.now.rows (map frame_of earlier.now) (frame_of frame.now))) }
+    requires { length earlier.now ≤ FRAMES }
+    ensures { Gives input_cause (λ u. u) result (in_table (length (map frame_of earlier.now) + 1) 3 (limits features.now datums.now counts.now.points.now.rows (map frame_of earlier.now) (frame_of frame.now))) }
 {
     match limits(features, datums, counts, earlier, frame) {
         Ok(()) => Ok(()),
-        Err(fault) => Err(placed(fault, earlier.len() as u32 + 1, FRAMES)),
+        Err(fault) => Err(placed(fault, earlier.len() as u32 + 1, FRAME_COLUMN)),
     }
 }
 
@@ -267,8 +271,8 @@ fn test_limits(
     counts: &GroupCounts<'_>,
     frames: &[FrameDef],
 ) -> Result<(), ReadFault>
-    requires { length frames.now ≤ 256 }
-    ensures { Answers (λ u. u) result (limits_from features.now.items.items datums.now.items.items counts.now.points.now.rows [] (map frame_of frames.now)) }
+    requires { length frames.now ≤ FRAMES }
+    ensures { Gives input_cause (λ u. u) result (limits_from features.now.items.items datums.now.items.items counts.now.points.now.rows [] (map frame_of frames.now)) }
 {
     for (at, frame) in frames.iter().enumerate() {
         match test_frame(

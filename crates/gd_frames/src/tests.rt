@@ -30,108 +30,156 @@ datum = [
 ]
 ";
 
-// The code, the row and the column of the first fault, or zeros.
-fn told(alloc: Global, head: &str, tail: &str) -> Result<(u32, u32, u32), AllocError> {
-    let text = format!(in alloc; "{head}{tail}")?;
-    let Ok(points) = read_points(alloc, POINTS.as_bytes()) else {
-        return Ok((99, 0, 0));
+// Whole files without features. A case has the fault, and the text with `;` for the end of a line.
+const TOP_LEVELS: &str = "\
+23 0 0 | # nothing
+20 0 0 | version
+20 0 0 | version = 9223372036854775808
+22 0 0 | colour = 1
+21 0 0 | version = 2
+21 0 0 | version = -1
+24 0 0 | version = 1.0
+24 0 0 | version = 1979-05-27
+23 0 0 | version = 1
+21 0 0 | version = 2; turn = true
+23 0 0 | turn = 21
+22 0 0 | colour = 1; version = '1'
+23 0 0 | version = 1; feature = [{hue = 1}]
+23 0 0 | version = 1; frame = []
+24 0 0 | version = 1; frame = 1
+24 0 0 | version = 1; frame = [1]
+25 0 0 | version = 1; turn = 'most'
+25 0 0 | version = 1; turn = 21
+24 0 0 | version = 1; turn = true
+25 0 0 | version = 1; turn = 'all'; shift = 26
+25 0 0 | version = 1; turn = 20; centre = [0, 0]
+24 0 0 | version = 1; centre = [0, 'x', 0, 0]
+25 0 0 | version = 1; centre = [0, 0, 8000001]
+24 0 0 | version = 1; feature = 1; frame = 2
+23 1 3 | version = 1; frame = [{}]
+23 1 2 | version = 1; frame = [{}]; datum = [{}]
+23 1 1 | version = 1; frame = [{}]; datum = [{}]; feature = [{}]";
+
+// Tables behind a version and an empty frame table.
+const FEATURE_AND_DATUM_TABLES: &str = "\
+22 1 1 | feature = [{hue = 1}]
+24 1 1 | feature = [{name = 1}]
+25 1 1 | feature = [{name = ''}]
+25 1 1 | feature = [{name = 'abcdefghijklmnopqrstuvwxyz0123456'}]
+26 1 1 | feature = [{name = 'z'}]
+23 1 1 | feature = [{name = 'p'}]
+25 1 1 | feature = [{name = 'p', shape = 'cube'}]
+23 1 1 | feature = [{name = 'p', shape = 'plane'}]
+25 1 1 | feature = [{name = 'p', shape = 'plane', direction = [0, 0, 1001]}]
+24 1 1 | feature = [{name = 'p', shape = 'plane', direction = [0, 'x', 1001, 0]}]
+25 1 1 | feature = [{name = 'p', shape = 'plane', direction = [0, 0, 0, 0]}]
+30 1 1 | feature = [{name = 's', shape = 'sphere', direction = [0, 0, 0]}]
+23 1 1 | feature = [{name = 's', shape = 'sphere'}]
+25 1 1 | feature = [{name = 's', shape = 'sphere', point = [0, 0, 0], radius = -1}]
+25 1 1 | feature = [{name = 's', shape = 'sphere', point = [0, 0, 0], radius = 8000001}]
+28 2 1 | feature = [{name = 's', shape = 'sphere', point = [0, 0, 0]}, {name = 's'}]
+26 1 2 | feature = [{name = 's', shape = 'sphere', point = [0, 0, 0]}]; datum = [{name = 'D', feature = 'p'}]
+25 1 2 | feature = [{name = 's', shape = 'sphere', point = [0, 0, 0]}]; datum = [{name = 'D', feature = 's', slack = 10001}]
+28 2 2 | feature = [{name = 's', shape = 'sphere', point = [0, 0, 0]}]; datum = [{name = 'D', feature = 's'}, {name = 'D'}]";
+
+// Keys of a frame table behind the features and datums above.
+const FRAME_TABLES: &str = "\
+read 8 5 1 | kind = 'flatness', features = ['p'], tolerance = 10
+22 1 3 | kind = 'flatness', features = ['p'], tolerance = 10, hue = 1
+23 1 3 | features = ['p'], tolerance = 10
+25 1 3 | kind = 'flat', features = ['p'], tolerance = 10
+25 1 3 | kind = 'flatness', features = [], tolerance = 10
+25 1 3 | kind = 'flatness', features = ['p', 'q'], tolerance = 10
+28 1 3 | kind = 'position', features = ['X', 'X'], tolerance = 10
+25 1 3 | kind = 'position', features = ['X', '!'], tolerance = 10
+24 1 3 | kind = 'position', features = ['!', 1], tolerance = 10
+26 1 3 | kind = 'position', features = ['X'], tolerance = 10
+25 1 3 | kind = 'position', features = ['a'], tolerance = 16000001
+27 1 3 | kind = 'position', features = ['a'], tolerance = 10, datums = ['X']
+28 1 3 | kind = 'position', features = ['a'], tolerance = 10, datums = ['P', 'P(M)']
+26 1 3 | kind = 'position', features = ['X']
+28 1 3 | kind = 'position', features = ['a'], tolerance = 10, datums = ['X', 'X(M)']
+27 1 3 | kind = 'position', features = ['h'], tolerance = 10, datums = ['X']
+31 1 3 | kind = 'position', features = ['h'], tolerance = 10, datums = ['M(M)']
+31 1 3 | kind = 'position', features = ['h'], tolerance = 10, datums = ['Q']
+23 1 3 | kind = 'position', features = ['a'], tolerance = 10, datums = ['Q', 'M(M)']
+29 1 3 | kind = 'parallelism', features = ['a', 'b', 'c'], tolerance = 10, datums = ['Q']
+25 1 3 | kind = 'position', features = ['a'], tolerance = 10, datums = ['P (M)']
+25 1 3 | kind = 'position', features = ['a'], tolerance = 10, datums = ['P', 'Q', 'H', 'M']
+read 8 5 1 | kind = 'position', features = ['a'], tolerance = 10, datums = ['P', 'Q', 'H']
+29 1 3 | kind = 'position', features = ['a'], tolerance = 10, datums = ['Q', 'P', 'H']
+read 8 5 1 | kind = 'position', features = ['a'], tolerance = 10, datums = ['H(M)', 'Q']
+23 1 3 | kind = 'position', features = ['a'], tolerance = 10, datums = ['M(M)']
+31 1 3 | kind = 'position', features = ['a'], tolerance = 10, datums = ['P(M)']
+31 1 3 | kind = 'position', features = ['a'], tolerance = 10, datums = ['A']
+31 1 3 | kind = 'position', features = ['h'], tolerance = 10
+23 1 3 | kind = 'position', features = ['h'], tolerance = 10, material = 'mmc'
+read 8 5 1 | kind = 'position', features = ['m'], tolerance = 10, material = 'mmc'
+23 1 3 | kind = 'position', features = ['m'], tolerance = 10, material = 'lmc'
+31 1 3 | kind = 'profile', features = ['a'], tolerance = 10
+23 1 3 | kind = 'profile', features = ['s'], tolerance = 10
+read 8 5 1 | kind = 'profile', features = ['p', 'm'], tolerance = 10, above = 10
+25 1 3 | kind = 'position', features = ['a'], tolerance = 10, above = 11
+31 1 3 | kind = 'position', features = ['a'], tolerance = 10, above = 10
+31 1 3 | kind = 'profile', features = ['p'], tolerance = 10, lower = 1
+read 8 5 1 | kind = 'profile', features = ['p'], tolerance = 10, lower_datums = []
+31 1 3 | kind = 'position', features = ['a'], tolerance = 10, datums = ['H(M)'], lower_datums = ['H(M)']
+31 1 3 | kind = 'position', features = ['a'], tolerance = 10, datums = ['H(M)'], lower = 1, lower_datums = ['H']
+read 8 5 1 | kind = 'position', features = ['a'], tolerance = 10, datums = ['H(M)'], lower = 1, lower_datums = ['H(M)']
+31 1 3 | kind = 'angularity', features = ['p'], tolerance = 10
+read 8 5 1 | kind = 'parallelism', features = ['a', 'b', 'p'], tolerance = 10, datums = ['P']
+32 1 3 | kind = 'parallelism', features = ['a', 'b', 'c'], tolerance = 10, datums = ['P']
+31 1 3 | kind = 'total_runout', features = ['p'], tolerance = 10, datums = ['P']
+31 1 3 | kind = 'total_runout', features = ['p'], tolerance = 10, datums = ['H(M)']
+read 8 5 1 | kind = 'circular_runout', features = ['p'], tolerance = 10, datums = ['H'], separate = true
+24 1 3 | kind = 'circular_runout', features = ['p'], tolerance = 10, datums = ['H'], separate = 1";
+
+/// What a reader answers: how many features, datums and frames it read, or the code, the row and the column of a fault.
+pub(crate) fn told(alloc: Global, points: &str, text: &[u8]) -> Result<String, AllocError> {
+    let Ok(points) = read_points(alloc, points.as_bytes()) else {
+        return String::from_str(alloc, "no points");
     };
-    match read_frames(alloc, text.as_bytes(), &points) {
-        Ok(_) => Ok((0, 0, 0)),
-        Err(ReadFault::Input(fault)) => Ok((fault.code, fault.row, fault.column)),
-        Err(ReadFault::Memory) => Ok((98, 0, 0)),
+    match read_frames(alloc, text, &points) {
+        Ok(file) => {
+            let (features, datums, frames) = (
+                file.features.len(),
+                file.datums.len(),
+                file.frames.len(),
+            );
+            format!(in alloc; "read {features} {datums} {frames}")
+        }
+        Err(ReadFault::Input(fault)) => {
+            let (code, row, column) = (fault.code, fault.row, fault.column);
+            format!(in alloc; "{code} {row} {column}")
+        }
+        Err(ReadFault::Memory) => String::from_str(alloc, "no memory"),
     }
 }
 
 #[test]
 fn top_levels(rt: HostRuntime) -> Result<(), Fail> {
-    let cases = [
-        ("", (23, 0, 0)),
-        ("version", (20, 0, 0)),
-        ("version = 9223372036854775808", (20, 0, 0)),
-        ("colour = 1", (22, 0, 0)),
-        ("version = 2", (21, 0, 0)),
-        ("version = -1", (21, 0, 0)),
-        ("version = 1.0", (24, 0, 0)),
-        ("version = 1979-05-27", (24, 0, 0)),
-        ("version = 1", (23, 0, 0)),
-        ("version = 1\nframe = []", (23, 0, 0)),
-        ("version = 1\nframe = 1", (24, 0, 0)),
-        ("version = 1\nframe = [1]", (24, 0, 0)),
-        ("version = 1\nturn = 'most'", (25, 0, 0)),
-        ("version = 1\nturn = 21", (25, 0, 0)),
-        ("version = 1\nturn = true", (24, 0, 0)),
-        ("version = 1\nturn = 'all'\nshift = 26", (25, 0, 0)),
-        ("version = 1\nturn = 20\ncentre = [0, 0]", (25, 0, 0)),
-        ("version = 1\ncentre = [0, 'x', 0, 0]", (24, 0, 0)),
-        ("version = 1\ncentre = [0, 0, 8000001]", (25, 0, 0)),
-        ("version = 1\nfeature = 1\nframe = 2", (24, 0, 0)),
-        ("version = 1\nframe = [{}]", (23, 1, 3)),
-        ("version = 1\nframe = [{}]\ndatum = [{}]", (23, 1, 2)),
-        (
-            "version = 1\nframe = [{}]\ndatum = [{}]\nfeature = [{}]",
-            (23, 1, 1),
-        ),
-    ];
-    for (text, want) in cases {
-        assert_eq!(rt; told(rt.alloc(), "", text)?, want, "{text}");
+    for line in TOP_LEVELS.lines() {
+        let (want, case) = line.split_once(" | ").unwrap_or((line, ""));
+        let text = case.replace(rt.alloc(), "; ", "\n")?;
+        assert_eq!(rt;
+            told(rt.alloc(), POINTS, text.as_bytes())?.as_str(),
+            want,
+            "{line}"
+        );
     }
     Ok(())
 }
 
 #[test]
 fn features_and_datums(rt: HostRuntime) -> Result<(), Fail> {
-    let cases = [
-        ("feature = [{hue = 1}]", (22, 1, 1)),
-        ("feature = [{name = 1}]", (24, 1, 1)),
-        ("feature = [{name = ''}]", (25, 1, 1)),
-        (
-            "feature = [{name = 'abcdefghijklmnopqrstuvwxyz0123456'}]",
-            (25, 1, 1),
-        ),
-        ("feature = [{name = 'z'}]", (26, 1, 1)),
-        ("feature = [{name = 'p'}]", (23, 1, 1)),
-        ("feature = [{name = 'p', shape = 'cube'}]", (25, 1, 1)),
-        ("feature = [{name = 'p', shape = 'plane'}]", (23, 1, 1)),
-        (
-            "feature = [{name = 'p', shape = 'plane', direction = [0, 0, 1001]}]",
-            (25, 1, 1),
-        ),
-        (
-            "feature = [{name = 's', shape = 'sphere', direction = [0, 0, 0]}]",
-            (30, 1, 1),
-        ),
-        ("feature = [{name = 's', shape = 'sphere'}]", (23, 1, 1)),
-        (
-            "feature = [{name = 's', shape = 'sphere', point = [0, 0, 0], radius = -1}]",
-            (25, 1, 1),
-        ),
-        (
-            "feature = [{name = 's', shape = 'sphere', point = [0, 0, 0], radius = 8000001}]",
-            (25, 1, 1),
-        ),
-        (
-            "feature = [{name = 's', shape = 'sphere', point = [0, 0, 0]}, {name = 's'}]",
-            (28, 2, 1),
-        ),
-        (
-            "feature = [{name = 's', shape = 'sphere', point = [0, 0, 0]}]\ndatum = [{name = 'D', feature = 'p'}]",
-            (26, 1, 2),
-        ),
-        (
-            "feature = [{name = 's', shape = 'sphere', point = [0, 0, 0]}]\ndatum = [{name = 'D', feature = 's', slack = 10001}]",
-            (25, 1, 2),
-        ),
-        (
-            "feature = [{name = 's', shape = 'sphere', point = [0, 0, 0]}]\ndatum = [{name = 'D', feature = 's'}, {name = 'D'}]",
-            (28, 2, 2),
-        ),
-    ];
-    for (text, want) in cases {
+    for line in FEATURE_AND_DATUM_TABLES.lines() {
+        let (want, case) = line.split_once(" | ").unwrap_or((line, ""));
+        let tables = case.replace(rt.alloc(), "; ", "\n")?;
+        let text = format!(in rt.alloc(); "version = 1\nframe = [{{}}]\n{tables}")?;
         assert_eq!(rt;
-            told(rt.alloc(), "version = 1\nframe = [{}]\n", text)?,
+            told(rt.alloc(), POINTS, text.as_bytes())?.as_str(),
             want,
-            "{text}"
+            "{line}"
         );
     }
     Ok(())
@@ -139,176 +187,14 @@ fn features_and_datums(rt: HostRuntime) -> Result<(), Fail> {
 
 #[test]
 fn frames(rt: HostRuntime) -> Result<(), Fail> {
-    let cases = [
-        (
-            "kind = 'flatness', features = ['p'], tolerance = 10",
-            (0, 0, 0),
-        ),
-        (
-            "kind = 'flatness', features = ['p'], tolerance = 10, hue = 1",
-            (22, 1, 3),
-        ),
-        ("features = ['p'], tolerance = 10", (23, 1, 3)),
-        (
-            "kind = 'flat', features = ['p'], tolerance = 10",
-            (25, 1, 3),
-        ),
-        (
-            "kind = 'flatness', features = [], tolerance = 10",
-            (25, 1, 3),
-        ),
-        (
-            "kind = 'flatness', features = ['p', 'q'], tolerance = 10",
-            (25, 1, 3),
-        ),
-        (
-            "kind = 'position', features = ['X', 'X'], tolerance = 10",
-            (28, 1, 3),
-        ),
-        (
-            "kind = 'position', features = ['X', '!'], tolerance = 10",
-            (25, 1, 3),
-        ),
-        (
-            "kind = 'position', features = ['!', 1], tolerance = 10",
-            (24, 1, 3),
-        ),
-        (
-            "kind = 'position', features = ['X'], tolerance = 10",
-            (26, 1, 3),
-        ),
-        (
-            "kind = 'position', features = ['a'], tolerance = 16000001",
-            (25, 1, 3),
-        ),
-        (
-            "kind = 'position', features = ['a'], tolerance = 10, datums = ['X']",
-            (27, 1, 3),
-        ),
-        (
-            "kind = 'position', features = ['a'], tolerance = 10, datums = ['P', 'P(M)']",
-            (28, 1, 3),
-        ),
-        (
-            "kind = 'position', features = ['a'], tolerance = 10, datums = ['P (M)']",
-            (25, 1, 3),
-        ),
-        (
-            "kind = 'position', features = ['a'], tolerance = 10, datums = ['P', 'Q', 'H', 'M']",
-            (25, 1, 3),
-        ),
-        (
-            "kind = 'position', features = ['a'], tolerance = 10, datums = ['P', 'Q', 'H']",
-            (0, 0, 0),
-        ),
-        (
-            "kind = 'position', features = ['a'], tolerance = 10, datums = ['Q', 'P', 'H']",
-            (29, 1, 3),
-        ),
-        (
-            "kind = 'position', features = ['a'], tolerance = 10, datums = ['H(M)', 'Q']",
-            (0, 0, 0),
-        ),
-        (
-            "kind = 'position', features = ['a'], tolerance = 10, datums = ['M(M)']",
-            (23, 1, 3),
-        ),
-        (
-            "kind = 'position', features = ['a'], tolerance = 10, datums = ['P(M)']",
-            (31, 1, 3),
-        ),
-        (
-            "kind = 'position', features = ['a'], tolerance = 10, datums = ['A']",
-            (31, 1, 3),
-        ),
-        (
-            "kind = 'position', features = ['h'], tolerance = 10",
-            (31, 1, 3),
-        ),
-        (
-            "kind = 'position', features = ['h'], tolerance = 10, material = 'mmc'",
-            (23, 1, 3),
-        ),
-        (
-            "kind = 'position', features = ['m'], tolerance = 10, material = 'mmc'",
-            (0, 0, 0),
-        ),
-        (
-            "kind = 'position', features = ['m'], tolerance = 10, material = 'lmc'",
-            (23, 1, 3),
-        ),
-        (
-            "kind = 'profile', features = ['a'], tolerance = 10",
-            (31, 1, 3),
-        ),
-        (
-            "kind = 'profile', features = ['s'], tolerance = 10",
-            (23, 1, 3),
-        ),
-        (
-            "kind = 'profile', features = ['p', 'm'], tolerance = 10, above = 10",
-            (0, 0, 0),
-        ),
-        (
-            "kind = 'position', features = ['a'], tolerance = 10, above = 11",
-            (25, 1, 3),
-        ),
-        (
-            "kind = 'position', features = ['a'], tolerance = 10, above = 10",
-            (31, 1, 3),
-        ),
-        (
-            "kind = 'profile', features = ['p'], tolerance = 10, lower = 1",
-            (31, 1, 3),
-        ),
-        (
-            "kind = 'profile', features = ['p'], tolerance = 10, lower_datums = []",
-            (0, 0, 0),
-        ),
-        (
-            "kind = 'position', features = ['a'], tolerance = 10, datums = ['H(M)'], lower_datums = ['H(M)']",
-            (31, 1, 3),
-        ),
-        (
-            "kind = 'position', features = ['a'], tolerance = 10, datums = ['H(M)'], lower = 1, lower_datums = ['H']",
-            (31, 1, 3),
-        ),
-        (
-            "kind = 'position', features = ['a'], tolerance = 10, datums = ['H(M)'], lower = 1, lower_datums = ['H(M)']",
-            (0, 0, 0),
-        ),
-        (
-            "kind = 'angularity', features = ['p'], tolerance = 10",
-            (31, 1, 3),
-        ),
-        (
-            "kind = 'parallelism', features = ['a', 'b', 'p'], tolerance = 10, datums = ['P']",
-            (0, 0, 0),
-        ),
-        (
-            "kind = 'parallelism', features = ['a', 'b', 'c'], tolerance = 10, datums = ['P']",
-            (32, 1, 3),
-        ),
-        (
-            "kind = 'total_runout', features = ['p'], tolerance = 10, datums = ['P']",
-            (31, 1, 3),
-        ),
-        (
-            "kind = 'total_runout', features = ['p'], tolerance = 10, datums = ['H(M)']",
-            (31, 1, 3),
-        ),
-        (
-            "kind = 'circular_runout', features = ['p'], tolerance = 10, datums = ['H'], separate = true",
-            (0, 0, 0),
-        ),
-        (
-            "kind = 'circular_runout', features = ['p'], tolerance = 10, datums = ['H'], separate = 1",
-            (24, 1, 3),
-        ),
-    ];
-    for (keys, want) in cases {
-        let text = format!(in rt.alloc(); "frame = [{{name = 'f', {keys}}}]\n")?;
-        assert_eq!(rt; told(rt.alloc(), FEATURES, text.as_str())?, want, "{keys}");
+    for line in FRAME_TABLES.lines() {
+        let (want, case) = line.split_once(" | ").unwrap_or((line, ""));
+        let text = format!(in rt.alloc(); "{FEATURES}frame = [{{name = 'f', {case}}}]\n")?;
+        assert_eq!(rt;
+            told(rt.alloc(), POINTS, text.as_bytes())?.as_str(),
+            want,
+            "{line}"
+        );
     }
     Ok(())
 }

@@ -91,38 +91,3 @@ fn least_square(a: Iv, least: i128) -> i128
 {
     if a.lo <= 0 && 0 <= a.hi { 0 } else { least }
 }
-
-#[cfg(test)]
-mod tests {
-    use super::*;
-
-    // ends by Python's fractions: the least and the greatest result over a grid of members
-    #[test]
-    fn ends_of_results(rt: HostRuntime) {
-        let over = between(-3, 2);
-        let above = between(2, 3);
-        let below = between(-3, -2);
-        let wide = between(-5, 7);
-        let rows = [
-            ("sum", add(over, wide), (-8, 9)),
-            ("difference", sub(over, wide), (-10, 7)),
-            ("multiple", scale(over, 4), (-12, 8)),
-            ("multiple by a negative", scale(above, -4), (-12, -8)),
-            ("product over 0", mul(over, wide), (-21, 15)),
-            ("product of positives", mul(above, between(4, 7)), (8, 21)),
-            (
-                "product of unlike signs",
-                mul(below, between(4, 7)),
-                (-21, -8),
-            ),
-            ("product of negatives", mul(below, between(-7, -4)), (8, 21)),
-            ("square over 0", square(over), (0, 9)),
-            ("square of positives", square(above), (4, 9)),
-            ("square of negatives", square(below), (4, 9)),
-            ("square from 0 down", square(between(-3, 0)), (0, 9)),
-        ];
-        for (name, got, want) in rows {
-            assert_eq!(rt; (got.lo, got.hi), want, "{name}");
-        }
-    }
-}

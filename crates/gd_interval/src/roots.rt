@@ -36,28 +36,3 @@ fn root_above(a: i128) -> i128
 {
     isqrt_ceil(a as u128) as i128
 }
-
-#[cfg(test)]
-mod tests {
-    use super::*;
-
-    // roots by Python's decimals
-    #[test]
-    fn ends_of_roots(rt: HostRuntime) {
-        let rows = [
-            ("0", root(between(0, 0)), (0, 0)),
-            ("up to 1", root(between(0, 1)), (0, 1)),
-            ("no square", root(between(8, 8)), (2, 3)),
-            ("a square", root(between(9, 9)), (3, 3)),
-            ("over squares", root(between(2, 10)), (1, 4)),
-            (
-                "of the size of a squared distance",
-                root(between(1 << 124, 1 << 125)),
-                (4_611_686_018_427_387_904, 6_521_908_912_666_391_107),
-            ),
-        ];
-        for (name, got, want) in rows {
-            assert_eq!(rt; (got.lo, got.hi), want, "{name}");
-        }
-    }
-}

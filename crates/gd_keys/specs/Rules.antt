@@ -1,5 +1,5 @@
 -- The rules of a frame file, and what a reader answers by them.
-use Rattle.std.specs.Prelude.{ℕ, ◌≡◌, Option, Some, None, Result, Ok, Err}
+use Rattle.std.specs.Prelude.{ℕ, Option, Some, None, Result, Ok, Err}
 use Rattle.gd_base.specs.declared.fault.InputFault.{InputFault}
 use Rattle.gd_keys.specs.declared.rule.KeyFault.{KeyFault}
 use Rattle.gd_keys.specs.declared.rule.KeyFault.TheVariants as key_fault
@@ -31,22 +31,18 @@ fault broken row column = record { code = code_of broken; row = row; column = co
 abbrev pub Reading : Type 0 → Type 0
 Reading A = Result A Rule
 
--- what was read goes on, and a broken rule stays
+-- what was read goes on, and a broken rule or a fault stays
 infixl 10 ◌>>=◌
-abbrev pub ◌>>=◌ : {A B : Type 0} → Result A Rule → (A → Result B Rule) → Result B Rule
+abbrev pub ◌>>=◌ : {A B E : Type 0} → Result A E → (A → Result B E) → Result B E
 (Ok x) >>= next = next x
-(Err broken) >>= next = Err broken
+(Err e) >>= next = Err e
 
 -- what an option has, or else a broken rule
 abbrev pub or_broken : {A : Type 0} → Option A → Rule → Result A Rule
 or_broken None broken = Err broken
 or_broken (Some x) broken = Ok x
 
--- what a reader answers: what is meant, unless memory ran out
-abbrev pub Fails : {Y : Type 0} → KeyFault → Result Y Rule → Type 0
-Fails key_fault.Memory meant = Unit {0}
-Fails (key_fault.Rule broken) meant = meant ≡ Err broken
-
-abbrev pub Gives : {X Y : Type 0} → (X → Y) → Result X KeyFault → Result Y Rule → Type 0
-Gives view (Ok x) meant = meant ≡ Ok (view x)
-Gives view (Err e) meant = Fails e meant
+-- the cause of a refusal: the rule that is broken. Want of memory has none
+abbrev pub key_cause : KeyFault → Option Rule
+key_cause (key_fault.Rule broken) = Some broken
+key_cause key_fault.Memory = None

@@ -4,7 +4,8 @@ ghost use Rattle.toml.specs.Data.{as_integer};
 ghost use Rattle.toml.specs.View.{view, items_view, array_view};
 ghost use Rattle.gd_base.specs.Names.{is_name};
 ghost use Rattle.gd_keys.specs.Contents.{all_of, in_range, is_within, list_of, name, number, text, three, three_of, truth, up_to};
-ghost use Rattle.gd_keys.specs.Rules.{Gives, or_broken};
+ghost use Rattle.gd_base.specs.Causes.{Gives};
+ghost use Rattle.gd_keys.specs.Rules.{key_cause, or_broken};
 ghost use Rattle.gd_keys.specs.declared.rule.Rule.TheVariants as rule;
 ghost use Rattle.gd_vec.specs.Vector.{IsWithin};
 
@@ -16,7 +17,7 @@ use toml::Value;
 
 /// A whole number from 0 to `limit`. Another kind of value is `Rule::Kind`, another number `Rule::Range`.
 pub fn number_in(value: &Value, limit: u32) -> Result<u32, KeyFault>
-    ensures number { Gives (λ n. n) result (number limit (view value.now)) }
+    ensures number { Gives key_cause (λ n. n) result (number limit (view value.now)) }
     ensures limit { IfOk result (λ n. n ≤ limit) }
 {
     match value.as_integer() {
@@ -26,7 +27,7 @@ pub fn number_in(value: &Value, limit: u32) -> Result<u32, KeyFault>
 }
 
 fn up_to(n: i64, limit: u32) -> Result<u32, KeyFault>
-    ensures number { Gives (λ n. n) result (up_to limit n) }
+    ensures number { Gives key_cause (λ n. n) result (up_to limit n) }
     ensures limit { IfOk result (λ n. n ≤ limit) }
 {
     if 0 <= n && n <= i64::from(limit) {
@@ -38,7 +39,7 @@ fn up_to(n: i64, limit: u32) -> Result<u32, KeyFault>
 
 /// A truth value, or else `Rule::Kind`.
 pub fn truth_in(value: &Value) -> Result<bool, KeyFault>
-    ensures { Gives (λ b. b) result (truth (view value.now)) }
+    ensures { Gives key_cause (λ b. b) result (truth (view value.now)) }
 {
     match value.as_bool() {
         Some(truth) => Ok(truth),
@@ -48,7 +49,7 @@ pub fn truth_in(value: &Value) -> Result<bool, KeyFault>
 
 /// A text, or else `Rule::Kind`.
 pub fn text_in(value: &Value) -> Result<&str, KeyFault>
-    ensures { Gives (λ t. t.now) result (text (view value.now)) }
+    ensures { Gives key_cause (λ t. t.now) result (text (view value.now)) }
 {
     match value.as_str() {
         Some(text) => Ok(text),
@@ -58,7 +59,7 @@ pub fn text_in(value: &Value) -> Result<&str, KeyFault>
 
 /// A name. Another kind of value is `Rule::Kind`, another text `Rule::Range`.
 pub fn name_in(alloc: Global, value: &Value) -> Result<Name, KeyFault>
-    ensures { Gives (λ n. n) result (name (view value.now)) }
+    ensures { Gives key_cause (λ n. n) result (name (view value.now)) }
 {
     let text = text_in(value)?;
     match Name::of(alloc, text.as_bytes())? {
@@ -70,7 +71,7 @@ pub fn name_in(alloc: Global, value: &Value) -> Result<Name, KeyFault>
 /// Three whole numbers of at most `limit` in size. An element of another kind is `Rule::Kind`, another count or
 /// another size `Rule::Range`.
 pub fn three_in(alloc: Global, value: &Value, limit: u32) -> Result<V3, KeyFault>
-    ensures three { Gives (λ v. v) result (three limit (view value.now)) }
+    ensures three { Gives key_cause (λ v. v) result (three limit (view value.now)) }
     ensures within { IfOk result (λ v. IsWithin limit v) }
 {
     let numbers = whole_numbers(alloc, value)?;
@@ -81,7 +82,7 @@ pub fn three_in(alloc: Global, value: &Value, limit: u32) -> Result<V3, KeyFault
 }
 
 fn three_of(v: V3, limit: u32) -> Result<V3, KeyFault>
-    ensures three { Gives (λ v. v) result (in_range (is_within limit v) v) }
+    ensures three { Gives key_cause (λ v. v) result (in_range (is_within limit v) v) }
     ensures within { IfOk result (λ v. IsWithin limit v) }
 {
     if is_within(&v, limit) {
@@ -100,7 +101,7 @@ fn is_within(v: &V3, limit: u32) -> bool
 
 // A list of whole numbers.
 fn whole_numbers(alloc: Global, value: &Value) -> Result<Vec<i64>, KeyFault>
-    ensures { Gives (λ v. v.items) result (list_of as_integer (view value.now)) }
+    ensures { Gives key_cause (λ v. v.items) result (list_of as_integer (view value.now)) }
 {
     match value.as_array() {
         Some(items) => integers(alloc, items.as_slice()),
@@ -109,7 +110,7 @@ fn whole_numbers(alloc: Global, value: &Value) -> Result<Vec<i64>, KeyFault>
 }
 
 fn integers(alloc: Global, items: &[Value]) -> Result<Vec<i64>, KeyFault>
-    ensures { Gives (λ v. v.items) result (or_broken (all_of as_integer (items_view items.now)) rule.Kind) }
+    ensures { Gives key_cause (λ v. v.items) result (or_broken (all_of as_integer (items_view items.now)) rule.Kind) }
 {
     let mut numbers = Vec::new(alloc);
     for item in items {

@@ -5,7 +5,8 @@ ghost use Rattle.toml.specs.Data.{get_member};
 ghost use Rattle.toml.specs.View.{table_view, view};
 ghost use Rattle.gd_keys.specs.Contents.{number, three};
 ghost use Rattle.gd_keys.specs.Keys.{are_listed, default_to, is_among, needed, only, optional};
-ghost use Rattle.gd_keys.specs.Rules.{Gives};
+ghost use Rattle.gd_base.specs.Causes.{Gives};
+ghost use Rattle.gd_keys.specs.Rules.{key_cause};
 ghost use Rattle.gd_vec.specs.Vector.{IsWithin};
 
 use crate::content::{number_in, three_in};
@@ -23,7 +24,7 @@ pub fn value_at<'a>(table: &'a Table, key: &str) -> Option<&'a Value>
 
 /// The value at a key that has to stand in the table, or else `Rule::Needed`.
 pub fn needed<'a>(table: &'a Table, key: &str) -> Result<&'a Value, KeyFault>
-    ensures { Gives (λ v. view v.now) result (needed key.now Ok (table_view table.now)) }
+    ensures { Gives key_cause (λ v. view v.now) result (needed key.now Ok (table_view table.now)) }
 {
     match value_at(table, key) {
         Some(value) => Ok(value),
@@ -57,7 +58,7 @@ fn are_listed(table: &Table, keys: &[&str]) -> bool
 
 /// Nothing where each key of the table is one of these, or else `Rule::Listed`.
 pub fn only_keys(table: &Table, keys: &[&str]) -> Result<(), KeyFault>
-    ensures { Gives (λ u. u) result (only (map (λ k. k.now) keys.now) (table_view table.now)) }
+    ensures { Gives key_cause (λ u. u) result (only (map (λ k. k.now) keys.now) (table_view table.now)) }
 {
     if are_listed(table, keys) {
         Ok(())
@@ -68,7 +69,7 @@ pub fn only_keys(table: &Table, keys: &[&str]) -> Result<(), KeyFault>
 
 /// The number from 0 to `limit` at a key, or `default` where the key is absent.
 pub fn number_or(table: &Table, key: &str, limit: u32, default: u32) -> Result<u32, KeyFault>
-    ensures number { Gives (λ n. n) result (default_to default key.now (number limit) (table_view table.now)) }
+    ensures number { Gives key_cause (λ n. n) result (default_to default key.now (number limit) (table_view table.now)) }
     ensures limit { default ≤ limit → IfOk result (λ n. n ≤ limit) }
 {
     match value_at(table, key) {
@@ -79,7 +80,7 @@ pub fn number_or(table: &Table, key: &str, limit: u32, default: u32) -> Result<u
 
 /// The number from 0 to `limit` at a key that may be absent.
 pub fn optional_number(table: &Table, key: &str, limit: u32) -> Result<Option<u32>, KeyFault>
-    ensures number { Gives (λ n. n) result (optional key.now (number limit) (table_view table.now)) }
+    ensures number { Gives key_cause (λ n. n) result (optional key.now (number limit) (table_view table.now)) }
     ensures limit { IfOk result (λ number. IfSome number (λ n. n ≤ limit)) }
 {
     match value_at(table, key) {
@@ -95,7 +96,7 @@ pub fn optional_three(
     key: &str,
     limit: u32,
 ) -> Result<Option<V3>, KeyFault>
-    ensures three { Gives (λ v. v) result (optional key.now (three limit) (table_view table.now)) }
+    ensures three { Gives key_cause (λ v. v) result (optional key.now (three limit) (table_view table.now)) }
     ensures within { IfOk result (λ numbers. IfSome numbers (IsWithin limit)) }
 {
     match value_at(table, key) {

@@ -7,8 +7,6 @@ mod number;
 mod read;
 mod rule;
 mod table;
-#[cfg(test)]
-mod tests;
 
 pub use columns::Columns;
 pub use index::PointIndex;

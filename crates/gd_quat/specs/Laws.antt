@@ -3,7 +3,8 @@ use Rattle.std.specs.Prelude.{ℤ, pos, ◌≡◌, ◌*ℤ◌, ◌-ℤ◌, ◌+�
 use Rattle.gd_interval.specs.Interval.{IsInside}
 use Rattle.gd_interval.specs.declared.iv.Iv.{Iv}
 use Rattle.gd_quat.specs.Boxes.{EnclosesImages, EnclosesMatrix, EnclosesTurned, IsRotationBox}
-use Rattle.gd_quat.specs.Formulas.{matrix_ends, matrix_formula, moved_formula, rotation_ends, turned_formula, vector_ends}
+use Rattle.gd_quat.specs.Formulas.{matrix_ends, matrix_formula, moved_formula, rotation_ends, turned_formula}
+use Rattle.gd_quat.specs.Formulas.{vector_ends}
 use Rattle.gd_quat.specs.Rotations.{Matrix, Rotation, applied, matrix_of, norm_of}
 use Rattle.gd_quat.specs.declared.shape.MatrixBox.{MatrixBox}
 use Rattle.gd_quat.specs.declared.shape.RotationBox.{RotationBox}
@@ -23,11 +24,13 @@ pub record HasSquareRows (n : ℤ) (m : Matrix) : Type 0 where
 -- the product of the first row and of the cross product of the others
 abbrev pub determinant_of : Matrix → ℤ
 determinant_of m =
-    m.x.x *ℤ (m.y.y *ℤ m.z.z -ℤ m.y.z *ℤ m.z.y) +ℤ m.x.y *ℤ (m.y.z *ℤ m.z.x -ℤ m.y.x *ℤ m.z.z) +ℤ m.x.z *ℤ (m.y.x *ℤ m.z.y -ℤ m.y.y *ℤ m.z.x)
+    m.x.x *ℤ (m.y.y *ℤ m.z.z -ℤ m.y.z *ℤ m.z.y) +ℤ m.x.y *ℤ (m.y.z *ℤ m.z.x -ℤ m.y.x *ℤ m.z.z) +ℤ m.x.z *ℤ (m.y.x *ℤ
+    m.z.y -ℤ m.y.y *ℤ m.z.x)
 
 -- lengths and right angles are kept: the product of two turned vectors is N^2 times the product of the vectors
 abbrev pub KeepsProducts : Type 0
-KeepsProducts = (q : Rotation) (v w : V3) → dot_of (applied (matrix_of q) v) (applied (matrix_of q) w) ≡ (pos (norm_of q) *ℤ pos (norm_of q)) *ℤ dot_of v w
+KeepsProducts = (q : Rotation) (v w : V3)
+    → dot_of (applied (matrix_of q) v) (applied (matrix_of q) w) ≡ (pos (norm_of q) *ℤ pos (norm_of q)) *ℤ dot_of v w
 
 abbrev pub KeepsRows : Type 0
 KeepsRows = (q : Rotation) → HasSquareRows (pos (norm_of q)) (matrix_of q)
@@ -39,7 +42,8 @@ KeepsHand = (q : Rotation) → determinant_of (matrix_of q) ≡ pos (norm_of q) 
 -- the box r of a turned vector and a translation holds the images under every placement that the boxes b and t hold
 abbrev pub ImagesAreHeld : Type 0
 ImagesAreHeld = (b : RotationBox) (m : MatrixBox) (v : V3) (x t r : VecBox)
-    → EnclosesMatrix b m → EnclosesTurned m v x → vector_ends r ≡ moved_formula (vector_ends x) (vector_ends t) → EnclosesImages b t v r
+    → EnclosesMatrix b m → EnclosesTurned m v x → vector_ends r ≡ moved_formula (vector_ends x) (vector_ends t)
+    → EnclosesImages b t v r
 
 -- ---- smaller boxes
 abbrev pub Lies : Iv → Iv → Type 0
@@ -64,14 +68,17 @@ pub record MatrixInside (a b : MatrixBox) : Type 0 where
 -- the matrix of a box inside another lies in its matrix
 abbrev pub MatricesNest : Type 0
 MatricesNest = (a b : RotationBox) (m n : MatrixBox) → IsRotationBox a → IsRotationBox b → RotationInside a b
-    → matrix_ends m ≡ matrix_formula (rotation_ends a) → matrix_ends n ≡ matrix_formula (rotation_ends b) → MatrixInside m n
+    → matrix_ends m ≡ matrix_formula (rotation_ends a) → matrix_ends n ≡ matrix_formula (rotation_ends b)
+    → MatrixInside m n
 
 -- so do the turned vectors
 abbrev pub TurnedNest : Type 0
 TurnedNest = (m n : MatrixBox) (v : V3) (x y : VecBox) → MatrixInside m n
-    → vector_ends x ≡ turned_formula (matrix_ends m) v → vector_ends y ≡ turned_formula (matrix_ends n) v → VectorInside x y
+    → vector_ends x ≡ turned_formula (matrix_ends m) v → vector_ends y ≡ turned_formula (matrix_ends n) v
+    → VectorInside x y
 
 -- and their sums with translations
 abbrev pub MovedNest : Type 0
 MovedNest = (a b s t x y : VecBox) → VectorInside a b → VectorInside s t
-    → vector_ends x ≡ moved_formula (vector_ends a) (vector_ends s) → vector_ends y ≡ moved_formula (vector_ends b) (vector_ends t) → VectorInside x y
+    → vector_ends x ≡ moved_formula (vector_ends a) (vector_ends s)
+    → vector_ends y ≡ moved_formula (vector_ends b) (vector_ends t) → VectorInside x y

@@ -1,4 +1,5 @@
--- Placements of a part: a rotation about its first point and a translation, with one whole denominator, and up to two offsets of features.
+-- Placements of a part: a rotation about its first point and a translation, with one whole denominator, and up to two
+-- offsets of features.
 use Rattle.std.specs.Prelude.{ℕ, ℤ, pos, ◌*◌, ◌^◌, ◌≤◌, ◌+ℤ◌, ◌*ℤ◌, ◌==◌, unsigned_abs, if◌then◌else◌}
 use Rattle.gd_quat.specs.Rotations.{Rotation, IsRotation, applied, matrix_of, norm_of}
 use Rattle.gd_quat.specs.declared.shape.Assignment.{Assignment}
@@ -27,13 +28,18 @@ times f v = record { x = f *ℤ v.x; y = f *ℤ v.y; z = f *ℤ v.z }
 abbrev pub plus : V3 → V3 → V3
 plus a b = record { x = a.x +ℤ b.x; y = a.y +ℤ b.y; z = a.z +ℤ b.z }
 
--- where a point goes that lies at v from the part's first point: v is turned, and the translation is added. The first point goes to the translation
+-- where a point goes that lies at v from the part's first point: v is turned, and the translation is added. The first
+-- point goes to the translation
 abbrev pub image_of : Placement → V3 → V3
 image_of p v = plus (times (pos p.scale) (applied (matrix_of p.turn) v)) (times (pos (norm_of p.turn)) p.shift)
 
 -- the offset of a number from 0 to 2: 0 is none
 abbrev pub offset_of : Placement → ℕ → V3
-offset_of p number = if number == 1 then p.first else (if number == 2 then p.second else record { x = pos 0; y = pos 0; z = pos 0 })
+offset_of p number = if number == 1 then p.first else (if number == 2 then p.second else record {
+  x = pos 0;
+  y = pos 0;
+  z = pos 0;
+})
 
 -- where it goes under an offset
 abbrev pub image_under : Placement → ℕ → V3 → V3
@@ -49,7 +55,14 @@ rotation_at face r =
 
 -- the placement on the grid that an assignment stands for
 abbrev pub placement_of : Assignment → Placement
-placement_of a = record { turn = rotation_at a.face a.ratios; scale = 2 ^ 16; shift = a.shift; first = a.first; second = a.second }
+placement_of a = record {
+  turn = rotation_at a.face a.ratios;
+  scale = 2 ^ 16;
+  shift = a.shift;
+  first = a.first;
+  second
+      = a.second;
+}
 
 -- the leading component is one of four, and no other is larger
 pub record IsOnGrid (a : Assignment) : Type 0 where

@@ -70,35 +70,3 @@ fn norm(q: &RotationBox) -> Iv
 {
     total_of(squared(q.q0), squared(q.q1), squared(q.q2), squared(q.q3))
 }
-
-#[cfg(test)]
-mod tests {
-    use super::*;
-    use gd_interval::between;
-
-    // The ends by Python's fractions: the least and the greatest quotient of the ends of both, rounded outward.
-    #[test]
-    fn entries_of_a_box(rt: HostRuntime) {
-        let one: i128 = 1 << 30;
-        let m = matrix(&RotationBox {
-            q0: between(one, one),
-            q1: between(-1024, 1024),
-            q2: between(0, 2048),
-            q3: between(one / 2, one / 2 + 1),
-        });
-        let rows = [
-            ("xx", m.x.x, (644_245_093, 644_245_095)),
-            ("xy", m.x.y, (-858_993_461, -858_993_458)),
-            ("xz", m.x.z, (-820, 4097)),
-            ("yx", m.y.x, (858_993_458, 858_993_461)),
-            ("yy", m.y.y, (644_245_093, 644_245_095)),
-            ("yz", m.y.z, (-1639, 3277)),
-            ("zx", m.z.x, (-4097, 820)),
-            ("zy", m.z.y, (-1639, 3277)),
-            ("zz", m.z.z, (1_073_741_823, 1_073_741_825)),
-        ];
-        for (name, got, want) in rows {
-            assert_eq!(rt; (got.lo, got.hi), want, "{name}");
-        }
-    }
-}

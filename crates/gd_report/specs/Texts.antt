@@ -18,11 +18,13 @@ abbrev pub place_text : ℕ → ℕ → List ℕ
 place_text row column = codes "row " ++ (decimal row ++ (codes " column " ++ (decimal column ++ codes "\n")))
 
 abbrev pub input_text : List ℕ → InputFault → List ℕ
-input_text word f = codes "input " ++ (word ++ (codes " code " ++ (decimal f.code ++ (codes " " ++ place_text f.row f.column))))
+input_text word f = codes "input " ++ (word ++ (codes " code " ++ (decimal f.code ++ (codes " "
+    ++ place_text f.row f.column))))
 
 -- the entries of a direction, in 2^-30
 abbrev pub direction_text : V3 → List ℕ
-direction_text n = signed_decimal n.x ++ (codes " " ++ (signed_decimal n.y ++ (codes " " ++ (signed_decimal n.z ++ codes "\n"))))
+direction_text n = signed_decimal n.x ++ (codes " " ++ (signed_decimal n.y ++ (codes " " ++ (signed_decimal n.z
+    ++ codes "\n"))))
 
 abbrev pub accept_text : ℕ → V3 → List ℕ
 accept_text level n = codes "accept level " ++ (decimal level ++ (codes " direction " ++ direction_text n))
@@ -36,10 +38,12 @@ reason_text reason.Floor = codes "floor"
 
 -- how many cells were undecided, and how many had been split before
 abbrev pub counts_text : ℕ → ℕ → List ℕ
-counts_text undecided spent = codes " undecided " ++ (decimal undecided ++ (codes " spent " ++ (decimal spent ++ codes "\n")))
+counts_text undecided spent = codes " undecided " ++ (decimal undecided ++ (codes " spent " ++ (decimal spent
+    ++ codes "\n")))
 
 abbrev pub open_text : Counts → List ℕ
-open_text c = codes "open " ++ (reason_text c.reason ++ (codes " level " ++ (decimal c.level ++ counts_text c.undecided c.spent)))
+open_text c = codes "open " ++ (reason_text c.reason ++ (codes " level " ++ (decimal c.level
+    ++ counts_text c.undecided c.spent)))
 
 abbrev pub valid_text : List ℕ
 valid_text = codes "valid\n"

@@ -55,13 +55,15 @@ pub record IsReject (words : List (List ℕ)) (files : Files) (printed : List �
   pub text : printed ≡ reject_text leaves
 
 -- ---- certificates
--- what a group of a certificate says of the points: they are flat along the direction of its witness, or along none, or the
--- verdict for the budget is open
+-- what a group of a certificate says of the points: they are flat along the direction of its witness, or along none, or
+-- the verdict for the budget is open
 abbrev pub SaysOfPoints : List Row → ℕ → ℕ → Body → Type 0
-SaysOfPoints rows tolerance budget (Accept root at) = IsFlatAlong rows tolerance root (direction_at (witness_of root at))
+SaysOfPoints rows tolerance budget (Accept root at) = IsFlatAlong rows tolerance root (direction_at (witness_of root
+    at))
 SaysOfPoints rows tolerance budget (Reject lines) = IsFlatNowhere rows tolerance
 SaysOfPoints rows tolerance budget (Open counts lines) =
-    IsVerdict (questions_of rows tolerance) budget (verdict.Open (tree (questions_of rows tolerance) counts.level) counts)
+    IsVerdict (questions_of rows tolerance) budget (verdict.Open (tree (questions_of rows tolerance) counts.level)
+    counts)
 
 -- the bytes are a certificate of the written requirement of a task, and it is right
 pub record IsValidFor (q : Questions) (bytes : List ℕ) : Type 0 where
@@ -79,7 +81,8 @@ pub record IsTrueFor (rows : List Row) (tolerance : ℕ) (bytes : List ℕ) : Ty
   pub only : valid.certificate.groups ≡ group ∷ []
   pub says : SaysOfPoints rows tolerance valid.certificate.share group
 
--- the run printed `valid`: the certificate is right for the points of the file and the tolerance, and what it says of them is so
+-- the run printed `valid`: the certificate is right for the points of the file and the tolerance, and what it says of
+-- them is so
 pub record IsValid (words : List (List ℕ)) (files : Files) (printed : List ℕ) : Type 0 where
   pub check : Check
   pub asks : Asks words (ForCheck check)
@@ -119,10 +122,12 @@ pub record HoldsFront (old new : Files) (flat : Flat) (name : List ℕ) : Type 0
 
 -- a verdict stored what is valid
 abbrev pub StoresValid : List (List ℕ) → Files → Files → Type 0
-StoresValid words old new = (flat : Flat) (name : List ℕ) → Asks words (ForFlat flat) → flat.certificate ≡ Some name → HoldsValid old new flat name
+StoresValid words old new = (flat : Flat) (name : List ℕ) → Asks words (ForFlat flat) → flat.certificate ≡ Some name
+    → HoldsValid old new flat name
 
--- however a run ends, the word of the certificate holds a valid certificate, or what it held, or, where its store failed, the first
--- bytes of a valid certificate
+-- however a run ends, the word of the certificate holds a valid certificate, or what it held, or, where its store
+-- failed, the first bytes of a valid certificate
 abbrev pub LeavesValid : List (List ℕ) → Files → Files → Word → Type 0
-LeavesValid words old new failed = (flat : Flat) (name : List ℕ) → Asks words (ForFlat flat) → flat.certificate ≡ Some name
+LeavesValid words old new failed = (flat : Flat) (name : List ℕ) → Asks words (ForFlat flat)
+    → flat.certificate ≡ Some name
     → HoldsValid old new flat name ⊎ ((new name ≡ old name) ⊎ (IsWord failed name true × HoldsFront old new flat name))

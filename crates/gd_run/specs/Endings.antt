@@ -10,8 +10,8 @@ use Rattle.gd_run.specs.Claims.{IsAccept, IsValid}
 use Rattle.gd_run.specs.Runs.{IsAnswer, IsNext, IsPossible, IsToRead}
 use Rattle.gd_world.specs.Shelf.{Files, IsWord, Puts, PutsPrefix, SameFiles, Word}
 
--- what a run was given and what it left: its words, whether the shelf and the sink tell, what the names held and hold, the failed
--- word, what was written before and after, and the counts of faults before and after
+-- what a run was given and what it left: its words, whether the shelf and the sink tell, what the names held and hold,
+-- the failed word, what was written before and after, and the counts of faults before and after
 pub record Course : Type 0 where
   pub words : List (List ℕ)
   pub shelf_tells : Bool
@@ -58,7 +58,8 @@ pub record EndsUnread (c : Course) (code : ℕ) : Type 0 where
   pub status : code ≡ 5
   pub written : c.sink_tells ≡ true → c.now ≡ c.before ++ cannot_read_text word
 
--- a store of the answer failed: those before it were done, its name holds what it held or the first of its bytes, and nothing was put
+-- a store of the answer failed: those before it were done, its name holds what it held or the first of its bytes, and
+-- nothing was put
 pub record EndsInStore (c : Course) (code : ℕ) : Type 0 where
   pub answer : Answer
   pub has : HasAnswer c answer
@@ -107,7 +108,8 @@ pub record EndsInWant (c : Course) (code : ℕ) : Type 0 where
 
 -- how a run ends: with its answer, with a file that could not be read, in a store, in a put, or for want of memory
 abbrev pub Ends : Course → ℕ → Type 0
-Ends c code = EndsWithAnswer c code ⊎ (EndsUnread c code ⊎ (EndsInStore c code ⊎ (EndsInPut c code ⊎ EndsInWant c code)))
+Ends c code = EndsWithAnswer c code ⊎ (EndsUnread c code ⊎ (EndsInStore c code ⊎ (EndsInPut c code
+    ⊎ EndsInWant c code)))
 
 -- the same over a shelf and a sink that tell: the answer of these files, its stores and its text
 pub record Answers (words : List (List ℕ)) (old new : Files) (before now : List ℕ) (code : ℕ) : Type 0 where
@@ -131,12 +133,15 @@ pub record Prints (Says : List ℕ → Type 0) (before now : List ℕ) : Type 0 
 
 -- status 0: an accept, or a valid certificate
 abbrev pub EndsInZero : List (List ℕ) → Files → List ℕ → List ℕ → Type 0
-EndsInZero words files before now = Prints (λ printed. IsAccept words files printed ⊎ IsValid words files printed) before now
+EndsInZero words files before now = Prints (λ printed. IsAccept words files printed
+    ⊎ IsValid words files printed) before now
 
 -- the shelf was called at most once for each input of the command
 abbrev pub ReadsFew : List (List ℕ) → ℕ → ℕ → Type 0
-ReadsFew words before now = (IsNoCommand words × (now ≤ before)) ⊎ ((ask : Ask) × Asks words ask × (now ≤ before + length (inputs_of ask)))
+ReadsFew words before now = (IsNoCommand words × (now ≤ before)) ⊎ ((ask : Ask) × Asks words ask
+    × (now ≤ before + length (inputs_of ask)))
 
 -- the shelf was called at most once for each input of the command, and once where it stores
 abbrev pub CallsFew : List (List ℕ) → ℕ → ℕ → Type 0
-CallsFew words before now = (IsNoCommand words × (now ≤ before)) ⊎ ((ask : Ask) × Asks words ask × (now ≤ before + (length (inputs_of ask) + option_len (store_of ask))))
+CallsFew words before now = (IsNoCommand words × (now ≤ before)) ⊎ ((ask : Ask) × Asks words ask
+    × (now ≤ before + (length (inputs_of ask) + option_len (store_of ask))))

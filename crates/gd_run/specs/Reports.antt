@@ -1,5 +1,6 @@
 -- A report, or why there is none.
-use Rattle.std.specs.Prelude.{ℕ, ◌≡◌, ◌≤◌, ◌<◌, ◌++◌, ◌⊎◌, Bool, true, List, Some, Result, Ok, Err, IfSome, length, take}
+use Rattle.std.specs.Prelude.{ℕ, ◌≡◌, ◌≤◌, ◌<◌, ◌++◌, ◌⊎◌, Bool, true, List, Some, Result, Ok, Err, IfSome, length}
+use Rattle.std.specs.Prelude.{take}
 use Rattle.std.specs.Option.{option_len}
 use Rattle.std.specs.String.{string_bytes}
 use Rattle.gd_base.specs.Causes.{Rose}
@@ -41,9 +42,11 @@ IsUnreadAnd Q (Err stop.Memory) = ⊥
 -- what the readers say of what was read: a table has a point, and a certificate can be checked
 pub record IsSound (i : Inputs) : Type 0 where
   pub some_points : IfSome i.table (λ t. 0 < length t.rows)
-  pub certified : IfSome i.certificate (λ c. IsInBounds (certificate_of c) × KeepsLines c × (length (text (certificate_of c)) ≤ FILE_BYTES))
+  pub certified : IfSome i.certificate (λ c. IsInBounds (certificate_of c) × KeepsLines c
+      × (length (text (certificate_of c)) ≤ FILE_BYTES))
 
--- what is so of the inputs that were read, of what is said of one that was refused, and of the word of one that could not be read
+-- what is so of the inputs that were read, of what is said of one that was refused, and of the word of one that could
+-- not be read
 abbrev pub OnInputs : (Inputs → Type 0) → (Said → Type 0) → (List ℕ → Type 0) → Result Inputs Refusal → Type 0
 OnInputs P R Q (Ok inputs) = P inputs
 OnInputs P R Q (Err (refusal.Refused line)) = R (said_in line)
@@ -55,7 +58,8 @@ abbrev pub IsPlain : Ending → Type 0
 IsPlain e = (status_of e ≤ 4) ⊎ (status_of e ≡ 8)
 
 -- the store of a report's file failed, and nothing was put
-pub record StoreFails (r : Report) (tells : Bool) (old new : Files) (failed : Word) (faults faults_now : ℕ) (sink_tells : Bool) (before now : List ℕ) : Type 0 where
+pub record StoreFails (r : Report) (tells : Bool) (old new : Files) (failed : Word) (faults faults_now : ℕ)
+    (sink_tells : Bool) (before now : List ℕ) : Type 0 where
   pub file : NamedFile
   pub of_report : r.file ≡ Some file
   pub failed_word : IsWord failed file.name.now true
@@ -64,7 +68,8 @@ pub record StoreFails (r : Report) (tells : Bool) (old new : Files) (failed : Wo
   pub nothing : sink_tells ≡ true → now ≡ before
 
 -- the put of a report's line failed, after its store
-pub record PutFails (r : Report) (tells : Bool) (old new : Files) (sink_tells : Bool) (before now : List ℕ) (faults faults_now : ℕ) : Type 0 where
+pub record PutFails (r : Report) (tells : Bool) (old new : Files) (sink_tells : Bool) (before now : List ℕ)
+    (faults faults_now : ℕ) : Type 0 where
   pub rose : Rose faults faults_now
   pub stored : tells ≡ true → StoresDone (stores_in r.file) old new
   pub prefix : sink_tells ≡ true → (n : ℕ) × (now ≡ before ++ take n (string_bytes r.line.text))

@@ -1,5 +1,6 @@
 // The one call that the program makes.
-ghost use Rattle.std.specs.Prelude.{ℕ, ◌≡◌, ◌≢◌, ◌++◌, ◌+◌, ◌≤◌, ◌⊎◌, true, false, None, IsErrOf, IsSomeAnd, OnOk, length, map, take};
+ghost use Rattle.std.specs.Prelude.{ℕ, ◌≡◌, ◌≢◌, ◌++◌, ◌+◌, ◌≤◌, ◌⊎◌, true, false, None, IsErrOf, IsSomeAnd, OnOk};
+ghost use Rattle.std.specs.Prelude.{length, map, take};
 ghost use Rattle.std.specs.Option.{option_len};
 ghost use Rattle.std.specs.String.{string_bytes};
 ghost use Rattle.gd_base.specs.Causes.{Rose};
@@ -60,7 +61,8 @@ fn answer_to<'a, R: Threads + Sync, S: Shelf>(
     words: &'a [String],
     shelf: &mut S,
 ) -> Result<Report<'a>, Stop<'a>>
-    ensures answer { S.tells ≡ true → OnReport (λ r. IsAnswer (map string_bytes words.now) (S.holds shelf.old) (answer_in r))
+    ensures answer { S.tells ≡ true → OnReport
+        (λ r. IsAnswer (map string_bytes words.now) (S.holds shelf.old) (answer_in r))
         (λ w. IsNext (map string_bytes words.now) (S.holds shelf.old) w) result }
     ensures kind { OnReport (λ r. IsPossible (map string_bytes words.now) (answer_in r))
         (λ w. IsToRead (map string_bytes words.now) w) result }
@@ -81,7 +83,8 @@ fn put_line<O: Sink>(alloc: Global, line: &Line, out: &mut O) -> Ending
     ensures said { O.tells ≡ true → result ≢ ending.Unwritten → result ≢ ending.OutOfMemory
         → O.written out.new ≡ O.written out.old ++ string_bytes line.now.text }
     ensures ends { result ≢ ending.Unwritten → result ≢ ending.OutOfMemory → result ≡ line.now.ending }
-    ensures unwritten { line.now.ending ≢ ending.Unwritten → result ≡ ending.Unwritten → Rose (O.faults out.old) (O.faults out.new) }
+    ensures unwritten { line.now.ending ≢ ending.Unwritten → result ≡ ending.Unwritten
+        → Rose (O.faults out.old) (O.faults out.new) }
     ensures prefix { O.tells ≡ true → line.now.ending ≢ ending.Unwritten → result ≡ ending.Unwritten
         → (n : ℕ) × (O.written out.new ≡ O.written out.old ++ take n (string_bytes line.now.text)) }
     ensures want { O.tells ≡ true → line.now.ending ≢ ending.OutOfMemory → result ≡ ending.OutOfMemory
@@ -101,12 +104,14 @@ fn store_file<S: Shelf>(
     file: &Option<NamedFile<'_>>,
     shelf: &mut S,
 ) -> Result<(), StoreFault>
-    ensures done { S.tells ≡ true → OnOk result (StoresDone (stores_in file.now) (S.holds shelf.old) (S.holds shelf.new)) }
+    ensures done { S.tells ≡ true → OnOk result (StoresDone (stores_in file.now) (S.holds shelf.old)
+        (S.holds shelf.new)) }
     ensures prefix { S.tells ≡ true → IsErrOf result StoreFault.Failed
         → IsSomeAnd file.now (λ f. PutsPrefix (S.holds shelf.old) (S.holds shelf.new) f.name.now f.bytes.items) }
     ensures memory { IsErrOf result StoreFault.Memory → SameFiles (S.holds shelf.old) (S.holds shelf.new) }
     ensures rose { IsErrOf result StoreFault.Failed → Rose (S.faults shelf.old) (S.faults shelf.new) }
-    ensures word { IsErrOf result StoreFault.Failed → IsSomeAnd file.now (λ f. IsWord (S.failed shelf.new) f.name.now true) }
+    ensures word { IsErrOf result StoreFault.Failed
+        → IsSomeAnd file.now (λ f. IsWord (S.failed shelf.new) f.name.now true) }
     ensures none { file.now ≡ None → shelf.new ≡ shelf.old }
     ensures kept { file.now ≡ None → OnOk result (Unit {0}) × (IsErrOf result StoreFault.Failed → ⊥) }
     ensures calls { S.calls shelf.new ≤ S.calls shelf.old + option_len file.now }
@@ -131,8 +136,10 @@ fn finish<S: Shelf, O: Sink>(
     ensures stored { S.tells ≡ true → result ≢ ending.Unwritten → result ≢ ending.OutOfMemory
         → StoresDone (stores_in report.now.file) (S.holds shelf.old) (S.holds shelf.new) }
     ensures unwritten { result ≡ ending.Unwritten
-        → StoreFails report.now S.tells (S.holds shelf.old) (S.holds shelf.new) (S.failed shelf.new) (S.faults shelf.old) (S.faults shelf.new) O.tells (O.written out.old) (O.written out.new)
-        ⊎ PutFails report.now S.tells (S.holds shelf.old) (S.holds shelf.new) O.tells (O.written out.old) (O.written out.new) (O.faults out.old) (O.faults out.new) }
+        → StoreFails report.now S.tells (S.holds shelf.old) (S.holds shelf.new) (S.failed shelf.new)
+        (S.faults shelf.old) (S.faults shelf.new) O.tells (O.written out.old) (O.written out.new)
+        ⊎ PutFails report.now S.tells (S.holds shelf.old) (S.holds shelf.new) O.tells (O.written out.old)
+        (O.written out.new) (O.faults out.old) (O.faults out.new) }
     ensures silent { O.tells ≡ true → result ≡ ending.OutOfMemory → O.written out.new ≡ O.written out.old }
     ensures want { result ≡ ending.OutOfMemory → SameFiles (S.holds shelf.old) (S.holds shelf.new)
         ⊎ (S.tells ≡ true → StoresDone (stores_in report.now.file) (S.holds shelf.old) (S.holds shelf.new)) }
@@ -165,14 +172,19 @@ fn end<S: Shelf, O: Sink>(
         → IsUnreadAnd (λ w. O.tells ≡ true → O.written out.new ≡ O.written out.old ++ cannot_read_text w) answer.entry }
     ensures untouched { IsUnreadAnd (λ w. Unit {0}) answer.entry → shelf.new ≡ shelf.old }
     ensures unwritten { result ≡ ending.Unwritten
-        → HasReport (λ r. StoreFails r S.tells (S.holds shelf.old) (S.holds shelf.new) (S.failed shelf.new) (S.faults shelf.old) (S.faults shelf.new) O.tells (O.written out.old) (O.written out.new)
-        ⊎ PutFails r S.tells (S.holds shelf.old) (S.holds shelf.new) O.tells (O.written out.old) (O.written out.new) (O.faults out.old) (O.faults out.new)) answer.entry
+        → HasReport (λ r. StoreFails r S.tells (S.holds shelf.old) (S.holds shelf.new) (S.failed shelf.new)
+        (S.faults shelf.old) (S.faults shelf.new) O.tells (O.written out.old) (O.written out.new)
+        ⊎ PutFails r S.tells (S.holds shelf.old) (S.holds shelf.new) O.tells (O.written out.old) (O.written out.new)
+        (O.faults out.old) (O.faults out.new)) answer.entry
         ⊎ IsUnreadAnd (λ w. Rose (O.faults out.old) (O.faults out.new)
-        × (O.tells ≡ true → (n : ℕ) × (O.written out.new ≡ O.written out.old ++ take n (cannot_read_text w)))) answer.entry }
+        × (O.tells ≡ true → (n : ℕ) × (O.written out.new
+        ≡ O.written out.old ++ take n (cannot_read_text w)))) answer.entry }
     ensures silent { O.tells ≡ true → result ≡ ending.OutOfMemory → O.written out.new ≡ O.written out.old }
     ensures want { result ≡ ending.OutOfMemory → SameFiles (S.holds shelf.old) (S.holds shelf.new)
-        ⊎ HasReport (λ r. S.tells ≡ true → StoresDone (stores_in r.file) (S.holds shelf.old) (S.holds shelf.new)) answer.entry }
-    ensures none { OnReport (λ r. r.file ≡ None) (λ w. Unit {0}) answer.entry → SameFiles (S.holds shelf.old) (S.holds shelf.new) }
+        ⊎ HasReport (λ r. S.tells ≡ true → StoresDone (stores_in r.file) (S.holds shelf.old)
+        (S.holds shelf.new)) answer.entry }
+    ensures none { OnReport (λ r. r.file ≡ None) (λ w. Unit {0}) answer.entry
+        → SameFiles (S.holds shelf.old) (S.holds shelf.new) }
     ensures calls { S.calls shelf.new ≤ S.calls shelf.old + stores_wanted answer.entry }
     ensures one_put { O.calls out.new ≤ O.calls out.old + 1 }
 {
@@ -215,8 +227,9 @@ fn run_once<R: Threads + Sync, S: Shelf, O: Sink>(
 
 /// Does what the words ask, over the files of a shelf and with one text to a sink, and ends with a status.
 ///
-/// The words are those after the program's name. `docs/FORMATS.md` lists the commands, the texts and the statuses.
-/// The clause `ends` says how a run may end, whatever the shelf and the sink tell; the clauses from `zero` on are laws of it.
+/// The words are those after the program's name. `docs/FORMATS.md` lists the commands, the texts and the statuses. The
+/// clause `ends` says how a run may end, whatever the shelf and the sink tell; the clauses from `zero` on are laws of
+/// it.
 pub fn run<R: Threads + Sync, S: Shelf, O: Sink>(
     rt: &R,
     alloc: Global,
@@ -224,7 +237,8 @@ pub fn run<R: Threads + Sync, S: Shelf, O: Sink>(
     shelf: &mut S,
     out: &mut O,
 ) -> Status
-    // A run ends with its answer, with a file that could not be read, in a store or a put that failed, or for want of memory.
+    // A run ends with its answer, with a file that could not be read, in a store or a put that failed, or for want of
+    // memory.
     ensures ends { Ends (record {
       words = map string_bytes words.now.items;
       shelf_tells = S.tells;
@@ -240,20 +254,23 @@ pub fn run<R: Threads + Sync, S: Shelf, O: Sink>(
 
     // A run in which no load, no store and no put failed ends with its answer, but for want of memory.
     ensures answer { S.tells ≡ true → O.tells ≡ true → result.0 ≢ 5 → result.0 ≢ 6 → result.0 ≢ 7
-        → Answers (map string_bytes words.now.items) (S.holds shelf.old) (S.holds shelf.new) (O.written out.old) (O.written out.new) result.0 }
+        → Answers (map string_bytes words.now.items) (S.holds shelf.old) (S.holds shelf.new) (O.written out.old)
+        (O.written out.new) result.0 }
 
-    // With 0 it printed an accept, with a direction along which no two points are further apart than the tolerance, or `valid`
-    // for a certificate that is right.
+    // With 0 it printed an accept, with a direction along which no two points are further apart than the tolerance, or
+    // `valid` for a certificate that is right.
     ensures zero { S.tells ≡ true → O.tells ≡ true → result.0 ≡ 0
         → EndsInZero (map string_bytes words.now.items) (S.holds shelf.old) (O.written out.old) (O.written out.new) }
 
     // With 1 it printed a reject: along no direction are all points within the tolerance.
     ensures reject { S.tells ≡ true → O.tells ≡ true → result.0 ≡ 1
-        → Prints (IsReject (map string_bytes words.now.items) (S.holds shelf.old)) (O.written out.old) (O.written out.new) }
+        → Prints (IsReject (map string_bytes words.now.items) (S.holds shelf.old)) (O.written out.old)
+        (O.written out.new) }
 
     // With 8 it printed the first wrong line of a certificate, which isn't right.
     ensures invalid { S.tells ≡ true → O.tells ≡ true → result.0 ≡ 8
-        → Prints (IsInvalid (map string_bytes words.now.items) (S.holds shelf.old)) (O.written out.old) (O.written out.new) }
+        → Prints (IsInvalid (map string_bytes words.now.items) (S.holds shelf.old)) (O.written out.old)
+        (O.written out.new) }
 
     // What a verdict stored as its certificate is valid for the points as they were read.
     ensures stored { S.tells ≡ true → result.0 ≤ 2
@@ -268,17 +285,19 @@ pub fn run<R: Threads + Sync, S: Shelf, O: Sink>(
     ensures wrong_words { IsNoCommand (map string_bytes words.now.items) → result.0 ≢ 6 → result.0 ≢ 7 → result.0 ≡ 4 }
     ensures wrong_text { O.tells ≡ true → result.0 ≡ 4 → O.written out.new ≡ O.written out.old ++ wrong_words_text }
 
-    // Status 5 comes only where a load of this run failed: that of a file which the words name. Status 6 comes only where a
-    // store failed, or the put.
+    // Status 5 comes only where a load of this run failed: that of a file which the words name. Status 6 comes only
+    // where a store failed, or the put.
     ensures five { result.0 ≡ 5 → Rose (S.faults shelf.old) (S.faults shelf.new) }
     ensures word { result.0 ≡ 5 → FailedToRead (map string_bytes words.now.items) (S.failed shelf.new) }
-    ensures six { result.0 ≡ 6 → Rose (S.faults shelf.old) (S.faults shelf.new) ⊎ Rose (O.faults out.old) (O.faults out.new) }
+    ensures six { result.0 ≡ 6 → Rose (S.faults shelf.old) (S.faults shelf.new)
+        ⊎ Rose (O.faults out.old) (O.faults out.new) }
 
     // Want of memory puts nothing.
     ensures seven { O.tells ≡ true → result.0 ≡ 7 → O.written out.new ≡ O.written out.old }
 
     // No status but 0, 1, 2, 6 and 7 comes with a change of a file.
-    ensures same { result.0 ≢ 0 → result.0 ≢ 1 → result.0 ≢ 2 → result.0 ≢ 6 → result.0 ≢ 7 → SameFiles (S.holds shelf.old) (S.holds shelf.new) }
+    ensures same { result.0 ≢ 0 → result.0 ≢ 1 → result.0 ≢ 2 → result.0 ≢ 6 → result.0 ≢ 7
+        → SameFiles (S.holds shelf.old) (S.holds shelf.new) }
     ensures range { result.0 ≤ 8 }
 
     // The shelf is called once at most for each file that the words name, and the sink once at most.

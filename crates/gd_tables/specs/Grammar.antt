@@ -4,6 +4,7 @@ use Rattle.std.specs.Prelude.{ℕ, pos, Bool, true, false, List, [], ◌∷◌, 
 use Rattle.std.specs.Cmp.Lexicographic.{pointwise}
 use Rattle.std.specs.Ordering.{int_eq}
 use Rattle.toml.specs.Data.{Data, string, Members, as_integer, get_member}
+use Rattle.gd_base.specs.Limits.{DATUMS, ENTRY, FEATURES, FRAMES, FRAME_FEATURES, SLACK, TOLERANCE, TURN, USUAL_SLACK, WORDS}
 use Rattle.gd_base.specs.Names.{name_of}
 use Rattle.gd_tables.specs.Kinds.{Frame, is_form}
 use Rattle.gd_tables.specs.Listed.{place_of}
@@ -36,7 +37,7 @@ version d = or_broken (as_integer d) rule.Kind >>= (λ n. or_broken (ranges_of n
 -- the text `all`, or a number from 0 to 20
 abbrev pub turn_in : Data → Result Turn Rule
 turn_in (string word) = in_range (pointwise nat_eq word (codes "all")) turn.All
-turn_in d = number 20 d >>= (λ k. Ok (turn.Within k))
+turn_in d = number TURN d >>= (λ k. Ok (turn.Within k))
 
 -- a list of tables that is no longer than this
 abbrev pub tables_to : ℕ → Data → Result (List Members) Rule
@@ -65,9 +66,9 @@ top_in table = do
   turn ← default_to turn.All (codes "turn") turn_in table
   shift ← default_to ranges.shift (codes "shift") (number ranges.shift) table
   centre ← optional (codes "centre") (three ranges.place) table
-  features ← default_to [] (codes "feature") (tables_to 1024) table
-  datums ← default_to [] (codes "datum") (tables_to 64) table
-  frames ← needed (codes "frame") (some_tables_to 256) table
+  features ← default_to [] (codes "feature") (tables_to FEATURES) table
+  datums ← default_to [] (codes "datum") (tables_to DATUMS) table
+  frames ← needed (codes "frame") (some_tables_to FRAMES) table
   Ok (record { ranges = ranges; turn = turn; shift = shift; centre = centre; features = features; datums = datums; frames = frames })
 
 -- NAMES
@@ -87,7 +88,7 @@ abbrev pub is_zero : V3 → Bool
 is_zero v = int_eq v.x (pos 0) && int_eq v.y (pos 0) && int_eq v.z (pos 0)
 
 abbrev pub direction : Data → Result V3 Rule
-direction d = three 1000 d >>= (λ v. if is_zero v then Err rule.Direction else Ok v)
+direction d = three ENTRY d >>= (λ v. if is_zero v then Err rule.Direction else Ok v)
 
 -- a sphere needs no direction: it then has (0, 0, 1), which isn't used
 abbrev pub without_direction : Shape → Result V3 Rule
@@ -120,7 +121,7 @@ datum_in features ranges earlier table = do
   _ ← only datum_keys table
   name ← needed (codes "name") (new_name earlier) table
   feature ← needed (codes "feature") (known_feature features) table
-  slack ← default_to 10 (codes "slack") (number 10000) table
+  slack ← default_to USUAL_SLACK (codes "slack") (number SLACK) table
   boundary ← optional (codes "boundary") (number ranges.diameter) table
   Ok (record { name = name; feature = feature; slack = slack; boundary = boundary })
 
@@ -128,7 +129,7 @@ datum_in features ranges earlier table = do
 
 -- a form kind has one feature, another kind 1 to 64
 abbrev pub most_features : Kind → ℕ
-most_features k = if is_form k then 1 else 64
+most_features k = if is_form k then 1 else FRAME_FEATURES
 
 -- 1 to 64 names of features that have tables, none twice, as the places of the tables
 unfoldable pub features_in : List (List ℕ) → Kind → Data → Result (List ℕ) Rule
@@ -159,7 +160,7 @@ datum_of datums w = option_map (λ place. record { datum = place; at_mmb = w.at_
 unfoldable pub words_in : List (List ℕ) → Data → Result (List DatumRef) Rule
 words_in datums d = do
   list ← texts d
-  words ← or_broken (if nat_le (length list) 3 then each_as word_of list else None) rule.Range
+  words ← or_broken (if nat_le (length list) WORDS then each_as word_of list else None) rule.Range
   _ ← once (map (λ w. w.name) words)
   or_broken (each_as (datum_of datums) words) rule.Datum
 
@@ -175,7 +176,7 @@ frame_in features datums earlier table = do
   name ← needed (codes "name") (new_name earlier) table
   kind ← needed (codes "kind") (word kind_of) table
   places ← needed (codes "features") (features_in features kind) table
-  tolerance ← needed (codes "tolerance") (number 16000000) table
+  tolerance ← needed (codes "tolerance") (number TOLERANCE) table
   words ← default_to [] (codes "datums") (words_in datums) table
   material ← default_to material.Rfs (codes "material") (word material_of) table
   above ← optional (codes "above") (number tolerance) table

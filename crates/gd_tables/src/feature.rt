@@ -7,7 +7,8 @@ ghost use Rattle.gd_tables.specs.Listed.{place_of};
 ghost use Rattle.gd_tables.specs.Words.{shape_of};
 ghost use Rattle.gd_keys.specs.Contents.{three, word};
 ghost use Rattle.gd_keys.specs.Keys.{is_among, needed, value_or};
-ghost use Rattle.gd_keys.specs.Rules.{Gives, or_broken};
+ghost use Rattle.gd_base.specs.Causes.{Gives};
+ghost use Rattle.gd_keys.specs.Rules.{key_cause, or_broken};
 ghost use Rattle.gd_keys.specs.declared.rule.Rule.TheVariants as rule;
 ghost use Rattle.gd_vec.specs.Vector.{IsWithin};
 
@@ -15,7 +16,7 @@ use crate::file::FeatureDef;
 use crate::kind::{Shape, shape_of};
 use crate::listed::Listed;
 use crate::ranges::Ranges;
-use gd_base::Name;
+use gd_base::{Name, limits};
 use gd_keys::{
     KeyFault, Rule, name_in, needed, only_keys, optional_number, text_in, three_in, value_at,
 };
@@ -23,9 +24,6 @@ use gd_points::PointTable;
 use gd_vec::V3;
 use std::alloc::Global;
 use toml::{Table, Value};
-
-/// The greatest size of an entry of a direction.
-const DIRECTION: u32 = 1_000;
 
 /// A feature table, whose name none of the earlier ones has: its name, and what it states.
 #[tactic(auto, unfolding(crate::specs::Grammar::feature_in))]
@@ -36,7 +34,7 @@ pub fn read_feature(
     earlier: &Listed<FeatureDef>,
     table: &Table,
 ) -> Result<(Name, FeatureDef), KeyFault>
-    ensures feature { Gives (λ f. (f.0, f.1)) result (feature_in points.now ranges.now earlier.now.names.keys (table_view table.now)) }
+    ensures feature { Gives key_cause (λ f. (f.0, f.1)) result (feature_in points.now ranges.now earlier.now.names.keys (table_view table.now)) }
     ensures new { IfOk result (λ f. is_among earlier.now.names.keys f.0 ≡ false) }
 {
     only_keys(
@@ -77,7 +75,7 @@ pub fn new_name<T: Drop>(
     earlier: &Listed<T>,
     table: &Table,
 ) -> Result<Name, KeyFault>
-    ensures name { Gives (λ n. n) result (needed (codes "name") (new_name earlier.now.names.keys) (table_view table.now)) }
+    ensures name { Gives key_cause (λ n. n) result (needed (codes "name") (new_name earlier.now.names.keys) (table_view table.now)) }
     ensures new { IfOk result (λ n. is_among earlier.now.names.keys n ≡ false) }
 {
     let name = name_in(alloc, needed(table, "name")?)?;
@@ -90,7 +88,7 @@ pub fn new_name<T: Drop>(
 
 // The number of a feature of the points file.
 fn number_of(points: &PointTable, name: &Name) -> Result<u32, KeyFault>
-    ensures { Gives (λ n. n) result (or_broken (place_of points.now.names name.now) rule.Feature) }
+    ensures { Gives key_cause (λ n. n) result (or_broken (place_of points.now.names name.now) rule.Feature) }
 {
     match points.find(name) {
         Some(feature) => Ok(feature),
@@ -99,7 +97,7 @@ fn number_of(points: &PointTable, name: &Name) -> Result<u32, KeyFault>
 }
 
 fn read_shape(table: &Table) -> Result<Shape, KeyFault>
-    ensures { Gives (λ s. s) result (needed (codes "shape") (word shape_of) (table_view table.now)) }
+    ensures { Gives key_cause (λ s. s) result (needed (codes "shape") (word shape_of) (table_view table.now)) }
 {
     let word = text_in(needed(table, "shape")?)?;
     match shape_of(word) {
@@ -109,7 +107,7 @@ fn read_shape(table: &Table) -> Result<Shape, KeyFault>
 }
 
 fn read_direction(alloc: Global, shape: Shape, table: &Table) -> Result<V3, KeyFault>
-    ensures { Gives (λ v. v) result (value_or (without_direction shape) direction (get_member (codes "direction") (table_view table.now))) }
+    ensures { Gives key_cause (λ v. v) result (value_or (without_direction shape) direction (get_member (codes "direction") (table_view table.now))) }
 {
     match value_at(table, "direction") {
         Some(value) => direction_in(alloc, value),
@@ -118,9 +116,9 @@ fn read_direction(alloc: Global, shape: Shape, table: &Table) -> Result<V3, KeyF
 }
 
 fn direction_in(alloc: Global, value: &Value) -> Result<V3, KeyFault>
-    ensures { Gives (λ v. v) result (direction (view value.now)) }
+    ensures { Gives key_cause (λ v. v) result (direction (view value.now)) }
 {
-    let direction = three_in(alloc, value, DIRECTION)?;
+    let direction = three_in(alloc, value, limits::ENTRY)?;
     if is_zero(&direction) {
         Err(KeyFault::Rule(Rule::Direction))
     } else {
@@ -135,7 +133,7 @@ fn is_zero(v: &V3) -> bool
 }
 
 fn without_direction(shape: Shape) -> Result<V3, KeyFault>
-    ensures { Gives (λ v. v) result (without_direction shape) }
+    ensures { Gives key_cause (λ v. v) result (without_direction shape) }
 {
     match shape {
         Shape::Sphere => Ok(V3 { x: 0, y: 0, z: 1 }),
@@ -144,7 +142,7 @@ fn without_direction(shape: Shape) -> Result<V3, KeyFault>
 }
 
 fn read_point(alloc: Global, table: &Table, limit: u32) -> Result<V3, KeyFault>
-    ensures { Gives (λ v. v) result (needed (codes "point") (three limit) (table_view table.now)) }
+    ensures { Gives key_cause (λ v. v) result (needed (codes "point") (three limit) (table_view table.now)) }
 {
     three_in(alloc, needed(table, "point")?, limit)
 }

@@ -7,21 +7,21 @@ ghost use Rattle.gd_tables.specs.Words.{kind_of, material_of};
 ghost use Rattle.gd_tables.specs.declared.kind.Material.TheVariants as material;
 ghost use Rattle.gd_keys.specs.Contents.{number, truth, word};
 ghost use Rattle.gd_keys.specs.Keys.{default_to, is_among, needed};
-ghost use Rattle.gd_keys.specs.Rules.{Gives};
+ghost use Rattle.gd_base.specs.Causes.{Gives};
+ghost use Rattle.gd_base.specs.Limits.{DATUMS, FEATURES, TOLERANCE};
+ghost use Rattle.gd_keys.specs.Rules.{key_cause};
 
 use crate::feature::new_name;
 use crate::file::{DatumDef, DatumRef, FeatureDef, FrameDef};
 use crate::kind::{Kind, Material, kind_of, material_of};
 use crate::listed::Listed;
 use crate::word::{features_in, words_in};
+use gd_base::limits;
 use gd_keys::{
     KeyFault, Rule, needed, number_in, only_keys, optional_number, text_in, truth_in, value_at,
 };
 use std::alloc::Global;
 use toml::{Table, Value};
-
-/// The greatest tolerance, in units.
-const TOLERANCE: u32 = 16_000_000;
 
 /// A frame table, whose name none of the earlier ones has.
 #[tactic(auto, unfolding(crate::specs::Grammar::frame_in))]
@@ -32,9 +32,9 @@ pub fn read_frame(
     earlier: &Listed<FrameDef>,
     table: &Table,
 ) -> Result<FrameDef, KeyFault>
-    requires features { length features.now.names.keys ≤ 1024 }
-    requires datums { length datums.now.names.keys ≤ 1024 }
-    ensures frame { Gives frame_of result (frame_in features.now.names.keys datums.now.names.keys earlier.now.names.keys (table_view table.now)) }
+    requires features { length features.now.names.keys ≤ FEATURES }
+    requires datums { length datums.now.names.keys ≤ DATUMS }
+    ensures frame { Gives key_cause frame_of result (frame_in features.now.names.keys datums.now.names.keys earlier.now.names.keys (table_view table.now)) }
     ensures new { IfOk result (λ f. is_among earlier.now.names.keys f.name ≡ false) }
 {
     only_keys(
@@ -77,7 +77,7 @@ pub fn read_frame(
 }
 
 fn read_kind(table: &Table) -> Result<Kind, KeyFault>
-    ensures { Gives (λ k. k) result (needed (codes "kind") (word kind_of) (table_view table.now)) }
+    ensures { Gives key_cause (λ k. k) result (needed (codes "kind") (word kind_of) (table_view table.now)) }
 {
     let word = text_in(needed(table, "kind")?)?;
     match kind_of(word) {
@@ -92,16 +92,16 @@ fn read_features(
     kind: Kind,
     features: &Listed<FeatureDef>,
 ) -> Result<Vec<u32>, KeyFault>
-    requires { length features.now.names.keys ≤ 1024 }
-    ensures { Gives (λ v. v.items) result (needed (codes "features") (features_in features.now.names.keys kind) (table_view table.now)) }
+    requires { length features.now.names.keys ≤ FEATURES }
+    ensures { Gives key_cause (λ v. v.items) result (needed (codes "features") (features_in features.now.names.keys kind) (table_view table.now)) }
 {
     features_in(alloc, needed(table, "features")?, kind, features)
 }
 
 fn read_tolerance(table: &Table) -> Result<u32, KeyFault>
-    ensures { Gives (λ n. n) result (needed (codes "tolerance") (number 16000000) (table_view table.now)) }
+    ensures { Gives key_cause (λ n. n) result (needed (codes "tolerance") (number TOLERANCE) (table_view table.now)) }
 {
-    number_in(needed(table, "tolerance")?, TOLERANCE)
+    number_in(needed(table, "tolerance")?, limits::TOLERANCE)
 }
 
 fn read_words(
@@ -110,8 +110,8 @@ fn read_words(
     key: &str,
     datums: &Listed<DatumDef>,
 ) -> Result<Vec<DatumRef>, KeyFault>
-    requires { length datums.now.names.keys ≤ 1024 }
-    ensures { Gives (λ v. v.items) result (default_to [] key.now (words_in datums.now.names.keys) (table_view table.now)) }
+    requires { length datums.now.names.keys ≤ DATUMS }
+    ensures { Gives key_cause (λ v. v.items) result (default_to [] key.now (words_in datums.now.names.keys) (table_view table.now)) }
 {
     match value_at(table, key) {
         Some(value) => words_in(alloc, value, datums),
@@ -120,7 +120,7 @@ fn read_words(
 }
 
 fn read_material(table: &Table) -> Result<Material, KeyFault>
-    ensures { Gives (λ m. m) result (default_to material.Rfs (codes "material") (word material_of) (table_view table.now)) }
+    ensures { Gives key_cause (λ m. m) result (default_to material.Rfs (codes "material") (word material_of) (table_view table.now)) }
 {
     match value_at(table, "material") {
         Some(value) => material_in(value),
@@ -129,7 +129,7 @@ fn read_material(table: &Table) -> Result<Material, KeyFault>
 }
 
 fn material_in(value: &Value) -> Result<Material, KeyFault>
-    ensures { Gives (λ m. m) result (word material_of (view value.now)) }
+    ensures { Gives key_cause (λ m. m) result (word material_of (view value.now)) }
 {
     match material_of(text_in(value)?) {
         Some(material) => Ok(material),
@@ -138,7 +138,7 @@ fn material_in(value: &Value) -> Result<Material, KeyFault>
 }
 
 fn read_separate(table: &Table) -> Result<bool, KeyFault>
-    ensures { Gives (λ b. b) result (default_to false (codes "separate") truth (table_view table.now)) }
+    ensures { Gives key_cause (λ b. b) result (default_to false (codes "separate") truth (table_view table.now)) }
 {
     match value_at(table, "separate") {
         Some(value) => truth_in(value),

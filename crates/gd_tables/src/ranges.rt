@@ -2,6 +2,8 @@
 ghost use Rattle.std.specs.Prelude.{◌≡◌};
 ghost use Rattle.gd_tables.specs.Ranges.{ranges_of};
 
+use gd_base::limits;
+
 /// The ranges of a version's numbers; lengths are in units of 0.1 micrometre. Each goes from 0, or to both sides.
 #[derive(Clone, Copy, Debug, PartialEq, Eq)]
 pub struct Ranges {
@@ -15,10 +17,10 @@ pub struct Ranges {
 }
 
 const VERSION_1: Ranges = Ranges {
-    place: 8_000_000,
-    shift: 25,
-    radius: 8_000_000,
-    diameter: 16_000_000,
+    place: limits::COORDINATE as u32,
+    shift: limits::SHIFT,
+    radius: limits::RADIUS,
+    diameter: limits::DIAMETER,
 };
 
 /// The ranges of a version that is known.

@@ -8,13 +8,15 @@ ghost use Rattle.gd_tables.specs.Listed.{place_of};
 ghost use Rattle.gd_tables.specs.Seen.{seen};
 ghost use Rattle.gd_keys.specs.Contents.{each_as};
 ghost use Rattle.gd_keys.specs.Keys.{are_new, is_among, once};
-ghost use Rattle.gd_keys.specs.Rules.{Gives, or_broken};
+ghost use Rattle.gd_base.specs.Causes.{Gives};
+ghost use Rattle.gd_base.specs.Limits.{DATUMS, FEATURES, WORDS};
+ghost use Rattle.gd_keys.specs.Rules.{key_cause, or_broken};
 ghost use Rattle.gd_keys.specs.declared.rule.Rule.TheVariants as rule;
 
 use crate::file::DatumRef;
 use crate::kind::Kind;
 use crate::listed::Listed;
-use gd_base::{Memory, Name};
+use gd_base::{Memory, Name, limits};
 use gd_keys::{KeyFault, Rule, again, texts_in};
 use indexmap::IndexSet;
 use std::alloc::Global;
@@ -35,8 +37,8 @@ pub fn features_in<T: Drop>(
     kind: Kind,
     features: &Listed<T>,
 ) -> Result<Vec<u32>, KeyFault>
-    requires { length features.now.names.keys ≤ 1024 }
-    ensures { Gives (λ v. v.items) result (features_in features.now.names.keys kind (view value.now)) }
+    requires { length features.now.names.keys ≤ FEATURES }
+    ensures { Gives key_cause (λ v. v.items) result (features_in features.now.names.keys kind (view value.now)) }
 {
     let texts = texts_in(alloc, value)?;
     let names = feature_names(alloc, kind, texts.as_slice())?;
@@ -47,11 +49,15 @@ pub fn features_in<T: Drop>(
 fn most_features(kind: Kind) -> usize
     ensures { result ≡ most_features kind }
 {
-    if kind.is_form() { 1 } else { 64 }
+    if kind.is_form() {
+        1
+    } else {
+        limits::FRAME_FEATURES
+    }
 }
 
 fn feature_names(alloc: Global, kind: Kind, texts: &[&str]) -> Result<Vec<Name>, KeyFault>
-    ensures { Gives (λ v. v.items) result (or_broken (if nat_le 1 (length texts.now) && nat_le (length texts.now) (most_features kind) then each_as name_of (map (λ t. t.now) texts.now) else None) rule.Range) }
+    ensures { Gives key_cause (λ v. v.items) result (or_broken (if nat_le 1 (length texts.now) && nat_le (length texts.now) (most_features kind) then each_as name_of (map (λ t. t.now) texts.now) else None) rule.Range) }
 {
     if 1 <= texts.len() && texts.len() <= most_features(kind) {
         names_of(alloc, texts)
@@ -62,7 +68,7 @@ fn feature_names(alloc: Global, kind: Kind, texts: &[&str]) -> Result<Vec<Name>,
 
 // The names that texts are.
 fn names_of(alloc: Global, texts: &[&str]) -> Result<Vec<Name>, KeyFault>
-    ensures { Gives (λ v. v.items) result (or_broken (each_as name_of (map (λ t. t.now) texts.now)) rule.Range) }
+    ensures { Gives key_cause (λ v. v.items) result (or_broken (each_as name_of (map (λ t. t.now) texts.now)) rule.Range) }
 {
     let mut names = Vec::new(alloc);
     for text in texts {
@@ -76,7 +82,7 @@ fn names_of(alloc: Global, texts: &[&str]) -> Result<Vec<Name>, KeyFault>
 
 // The names, if none stands twice.
 fn once(alloc: Global, names: Vec<Name>) -> Result<IndexSet<Name>, KeyFault>
-    ensures once { Gives (λ _. tt) result (once names.items) }
+    ensures once { Gives key_cause (λ _. tt) result (once names.items) }
     ensures names { IfOk result (λ set. set.keys ≡ names.items) }
 {
     let mut set = IndexSet::new(alloc);
@@ -94,8 +100,8 @@ fn places_of<T: Drop>(
     features: &Listed<T>,
     names: &IndexSet<Name>,
 ) -> Result<Vec<u32>, KeyFault>
-    requires { length features.now.names.keys ≤ 1024 }
-    ensures { Gives (λ v. v.items) result (or_broken (each_as (place_of features.now.names.keys) names.now.keys) rule.Feature) }
+    requires { length features.now.names.keys ≤ FEATURES }
+    ensures { Gives key_cause (λ v. v.items) result (or_broken (each_as (place_of features.now.names.keys) names.now.keys) rule.Feature) }
 {
     let mut places = Vec::new(alloc);
     for name in names {
@@ -114,8 +120,8 @@ pub fn words_in<T: Drop>(
     value: &Value,
     datums: &Listed<T>,
 ) -> Result<Vec<DatumRef>, KeyFault>
-    requires { length datums.now.names.keys ≤ 1024 }
-    ensures { Gives (λ v. v.items) result (words_in datums.now.names.keys (view value.now)) }
+    requires { length datums.now.names.keys ≤ DATUMS }
+    ensures { Gives key_cause (λ v. v.items) result (words_in datums.now.names.keys (view value.now)) }
 {
     let texts = texts_in(alloc, value)?;
     let words = few_words(alloc, texts.as_slice())?;
@@ -124,9 +130,9 @@ pub fn words_in<T: Drop>(
 }
 
 fn few_words(alloc: Global, texts: &[&str]) -> Result<Vec<Word>, KeyFault>
-    ensures { Gives (λ v. map seen v.items) result (or_broken (if nat_le (length texts.now) 3 then each_as word_of (map (λ t. t.now) texts.now) else None) rule.Range) }
+    ensures { Gives key_cause (λ v. map seen v.items) result (or_broken (if nat_le (length texts.now) WORDS then each_as word_of (map (λ t. t.now) texts.now) else None) rule.Range) }
 {
-    if texts.len() <= 3 {
+    if texts.len() <= limits::WORDS {
         words_of(alloc, texts)
     } else {
         Err(KeyFault::Rule(Rule::Range))
@@ -135,7 +141,7 @@ fn few_words(alloc: Global, texts: &[&str]) -> Result<Vec<Word>, KeyFault>
 
 // The words that texts are.
 fn words_of(alloc: Global, texts: &[&str]) -> Result<Vec<Word>, KeyFault>
-    ensures { Gives (λ v. map seen v.items) result (or_broken (each_as word_of (map (λ t. t.now) texts.now)) rule.Range) }
+    ensures { Gives key_cause (λ v. map seen v.items) result (or_broken (each_as word_of (map (λ t. t.now) texts.now)) rule.Range) }
 {
     let mut words = Vec::new(alloc);
     for text in texts {
@@ -183,8 +189,8 @@ fn datums_of<T: Drop>(
     datums: &Listed<T>,
     words: &[Word],
 ) -> Result<Vec<DatumRef>, KeyFault>
-    requires { length datums.now.names.keys ≤ 1024 }
-    ensures { Gives (λ v. v.items) result (or_broken (each_as (datum_of datums.now.names.keys) (map seen words.now)) rule.Datum) }
+    requires { length datums.now.names.keys ≤ DATUMS }
+    ensures { Gives key_cause (λ v. v.items) result (or_broken (each_as (datum_of datums.now.names.keys) (map seen words.now)) rule.Datum) }
 {
     let mut refs = Vec::new(alloc);
     for word in words {

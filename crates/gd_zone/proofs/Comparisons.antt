@@ -1,5 +1,5 @@
 -- What the comparisons of a written test say of exact values, and the other way round.
-use Rattle.std.proofs.Common.{◌≡◌, refl, sym, subst, ◌∙◌, ℕ, zero, suc, ◌+◌, ◌*◌, ◌^◌, ◌<◌, ◌≤◌, [], ◌∷◌, Bool, true, false, ◌==◌, arith, ⊎_elim}
+use Rattle.std.proofs.Common.{◌≡◌, ◌≢◌, refl, sym, subst, ◌∙◌, ℕ, zero, suc, ◌+◌, ◌-◌, ◌*◌, ◌^◌, ◌<◌, ◌≤◌, [], ◌∷◌, Bool, true, false, ◌==◌, arith, ⊎_elim}
 use Rattle.std.proofs.lemmas.Int.{ints}
 use Rattle.std.specs.Prelude.{ℤ, pos, negsuc, ◌-ℤ◌, ◌*ℤ◌, ◌≤ℤ◌, nat_le, if◌then◌else◌}
 use Rattle.gd_int.proofs.Comparisons.{AtMost-below, AtMost-scale, AtMost-unscale, RootAtMost-from_difference, RootAtMost-to_difference, RootAtMost-scale, RootAtMost-unscale}
@@ -7,8 +7,8 @@ use Rattle.gd_int.proofs.Integers.{mul_le_out, mul_le_right_pos, mul_nonneg, ≤
 use Rattle.gd_int.specs.Comparisons.{AtMost, RootAtMost}
 use Rattle.gd_quat.proofs.Polynomials.{var, num, ◌⊖◌, ◌⊗◌, equal}
 use Rattle.gd_zone.specs.Conditions.{four, squared_bound, twice}
-use Rattle.std.proofs.Math.Nat.{mul-pos}
-use Rattle.std.proofs.lemmas.Bool.{eqb-true, false≢true, leb-true}
+use Rattle.std.proofs.Math.Nat.{eq-or-lt_of_le, mul-pos}
+use Rattle.std.proofs.lemmas.Bool.{eqb-false, eqb-true, false≢true, leb-true}
 use Rattle.std.proofs.lemmas.Bool.Decides.{leb_tells}
 use Rattle.gd_quat.specs.Formulas.{Ends}
 use Rattle.gd_zone.specs.Tests.{ceil_root, farthest, floor_root, nearest, root_above, root_below, square_bound}
@@ -133,7 +133,7 @@ below-step : (r n : ℕ) (b : Bool) → (b ≡ true → (r + 1) * (r + 1) ≤ n)
 below-step r n true f h = f refl
 below-step r n false f h = h
 
-below-square : (a : ℕ) → root_below a * root_below a ≤ a
+pub below-square : (a : ℕ) → root_below a * root_below a ≤ a
 unfolding root_below
 below-square zero = omega arith
 below-square (suc a) = below-step (root_below a) (suc a) (nat_le ((root_below a + 1) * (root_below a + 1)) (suc a)) (leb-true ((root_below a + 1) * (root_below a + 1)) (suc a)) (omega (arith, below-square a))
@@ -145,7 +145,7 @@ next-step r a false f h = f refl
 leb-false : (a b : ℕ) → nat_le a b ≡ false → b < a
 leb-false a b h = ⊎_elim (λ t. absurd (false≢true (sym h ∙ t.0))) (λ t. t.1) (leb_tells a b)
 
-below-next : (a : ℕ) → a < (root_below a + 1) * (root_below a + 1)
+pub below-next : (a : ℕ) → a < (root_below a + 1) * (root_below a + 1)
 unfolding root_below
 below-next zero = omega arith
 below-next (suc a) = next-step (root_below a) a (nat_le ((root_below a + 1) * (root_below a + 1)) (suc a)) (leb-false ((root_below a + 1) * (root_below a + 1)) (suc a)) (below-next a)
@@ -154,9 +154,28 @@ above-step : (r a : ℕ) (b : Bool) → (b ≡ true → r * r ≡ a) → a < (r 
 above-step r a true f h = let e : r * r ≡ a = f refl in omega (arith, e)
 above-step r a false f h = omega arith
 
-above-square : (a : ℕ) → a ≤ root_above a * root_above a
+pub above-square : (a : ℕ) → a ≤ root_above a * root_above a
 unfolding root_above
 above-square a = above-step (root_below a) a (root_below a * root_below a == a) (eqb-true (root_below a * root_below a) a) (below-next a)
+
+-- no lesser number has a square of at least a
+least-step : (r a : ℕ) (b : Bool) → (b ≡ false → r * r ≢ a) → r * r ≤ a → 0 < (if b then r else r + 1) → (b ≡ true → r * r ≡ a) → ((if b then r else r + 1) - 1) * ((if b then r else r + 1) - 1) < a
+least-step zero a true f h p e = absurd (omega (arith, p))
+least-step (suc r) a true f h p e = let i : suc r * suc r ≡ a = e refl in let j : r * r < a = omega (arith, i) in subst (λ z. z * z < a) (sym (one-less r)) j
+  where
+    one-less : (r : ℕ) → suc r - 1 ≡ r
+    one-less r = omega arith
+least-step r a false f h p e = let i : r * r < a = below-of (r * r) a h (f refl) in subst (λ z. z * z < a) (sym (drop-one r)) i
+  where
+    below-of : (m n : ℕ) → m ≤ n → m ≢ n → m < n
+    below-of m n h k = ⊎_elim (λ e. absurd (k e)) (λ l. l) (eq-or-lt_of_le h)
+
+    drop-one : (r : ℕ) → (r + 1) - 1 ≡ r
+    drop-one r = omega arith
+
+pub above-least : (a : ℕ) → 0 < root_above a → (root_above a - 1) * (root_above a - 1) < a
+unfolding root_above
+above-least a p = least-step (root_below a) a (root_below a * root_below a == a) (eqb-false (root_below a * root_below a) a) (below-square a) p (eqb-true (root_below a * root_below a) a)
 
 -- the same of numbers with a sign
 floor-root_below : (z : ℤ) → pos 0 ≤ℤ z → (floor_root z *ℤ floor_root z) ≤ℤ z

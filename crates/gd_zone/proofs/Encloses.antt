@@ -8,11 +8,12 @@ use Rattle.gd_interval.specs.Interval.{Inside}
 use Rattle.gd_interval.specs.declared.iv.Iv.{Iv}
 use Rattle.gd_quat.proofs.Polynomials.{var, num, ◌⊕◌, ◌⊖◌, ◌⊗◌, equal}
 use Rattle.gd_quat.specs.Boxes.{HoldsVector}
-use Rattle.gd_quat.specs.Formulas.{Ends, VectorEnds, alone, difference, ends, moved_formula, multiple, row_formula, square, sum, vector_ends}
-use Rattle.gd_quat.specs.Placements.{Placement, denominator_of, image_of, image_under, plus, times}
-use Rattle.gd_quat.specs.Rotations.{matrix_of, norm_of}
+use Rattle.gd_quat.specs.Formulas.{Ends, VectorEnds, alone, difference, ends, moved_formula, multiple, row_formula, square, sum, turned_formula, vector_ends}
+use Rattle.gd_quat.specs.Placements.{Placement, denominator_of, image_of, image_under, offset_of, plus, times}
+use Rattle.gd_quat.specs.Rotations.{applied, matrix_of, norm_of}
 use Rattle.gd_quat.specs.declared.shape.VecBox.{VecBox}
 use Rattle.gd_vec.specs.Vector.{dot_of, norm2_of}
+use Rattle.gd_vec.specs.Vector as vectors
 use Rattle.gd_vec.specs.declared.vector.V3.{V3}
 use Rattle.gd_zone.specs.Boxes.{HoldsPlacement, placed_ends}
 use Rattle.gd_zone.specs.Conditions.{cross, exact_value, from_surface}
@@ -189,6 +190,53 @@ squares-held z y k h =
     (sum_inside (sum a b).lo (sum a b).hi c.lo c.hi (k * k) (u +ℤ v) w
     (sum_inside a.lo a.hi b.lo b.hi (k * k) u v (square_inside y.x.lo y.x.hi k (pos (2 ^ 16) *ℤ z.x) h.x) (square_inside y.y.lo y.y.hi k (pos (2 ^ 16) *ℤ z.y) h.y))
     (square_inside y.z.lo y.z.hi k (pos (2 ^ 16) *ℤ z.z) h.z))
+
+-- ---- a turned vector alone, and what a spread along a direction looks at
+turned-inside : (m : VecBox) (row v : V3) (n s : ℕ) → HoldsVector m n (times (pos (2 ^ 30)) row)
+    → Inside (row_formula (vector_ends m) v).lo (row_formula (vector_ends m) v).hi (n * s) (pos (2 ^ 16) *ℤ (pos s *ℤ dot_of row v))
+turned-inside m row v n s h =
+    let a : Ends = row_formula (vector_ends m) v in
+    let w : ℤ = dot_of row v in
+    let d : dot_of (times (pos (2 ^ 30)) row) v ≡ (pos (2 ^ 16) *ℤ w) *ℤ pos (2 ^ 14) =
+    equal (row.x ∷ row.y ∷ row.z ∷ v.x ∷ v.y ∷ v.z ∷ []) ((num (pos (2 ^ 30)) ⊗ var 0) ⊗ var 3 ⊕ (num (pos (2 ^ 30)) ⊗ var 1) ⊗ var 4 ⊕ (num (pos (2 ^ 30)) ⊗ var 2) ⊗ var 5)
+    ((num (pos (2 ^ 16)) ⊗ (var 0 ⊗ var 3 ⊕ var 1 ⊗ var 4 ⊕ var 2 ⊗ var 5)) ⊗ num (pos (2 ^ 14))) refl in
+    let b : Inside a.lo a.hi n (pos (2 ^ 16) *ℤ w) = cut a.lo a.hi (pos (2 ^ 16) *ℤ w) n (subst (λ z. Inside a.lo a.hi (n * 2 ^ 14) z) d (row-inside m v (times (pos (2 ^ 30)) row) n h)) in
+    let g : (pos (2 ^ 16) *ℤ w) *ℤ pos s ≡ pos (2 ^ 16) *ℤ (pos s *ℤ w) = equal (w ∷ pos s ∷ []) ((num (pos (2 ^ 16)) ⊗ var 0) ⊗ var 1) (num (pos (2 ^ 16)) ⊗ (var 1 ⊗ var 0)) refl in
+    subst (λ z. Inside a.lo a.hi (n * s) z) g (rescaled a.lo a.hi n s (pos (2 ^ 16) *ℤ w) b)
+
+-- how far the turned vector lies along a direction, over the denominator
+abbrev pub turned_along : V3 → Placement → V3 → ℤ
+turned_along d p v = dot_of d (times (pos p.scale) (applied (matrix_of p.turn) v))
+
+pub turned-along-inside : (d : V3) (b : Placed) (v : V3) (p : Placement) → HoldsPlacement b p
+    → Inside (along d (turned_formula (placed_ends b).matrix v)).lo (along d (turned_formula (placed_ends b).matrix v)).hi (denominator_of p) (pos (2 ^ 16) *ℤ turned_along d p v)
+turned-along-inside d b v p h =
+    along-held d (times (pos p.scale) (applied (matrix_of p.turn) v)) (turned_formula (placed_ends b).matrix v) (denominator_of p) (record {
+      x = turned-inside b.matrix.x (matrix_of p.turn).x v (norm_of p.turn) p.scale h.matrix.x;
+      y = turned-inside b.matrix.y (matrix_of p.turn).y v (norm_of p.turn) p.scale h.matrix.y;
+      z = turned-inside b.matrix.z (matrix_of p.turn).z v (norm_of p.turn) p.scale h.matrix.z;
+    })
+
+entry-apart : (d x y t u a : ℤ) → (d *ℤ (((x +ℤ t) +ℤ u) -ℤ a)) -ℤ (d *ℤ (((y +ℤ t) +ℤ u) -ℤ a)) ≡ (d *ℤ x) -ℤ (d *ℤ y)
+entry-apart d x y t u a =
+    equal (d ∷ x ∷ y ∷ t ∷ u ∷ a ∷ []) (var 0 ⊗ (((var 1 ⊕ var 3) ⊕ var 4) ⊖ var 5) ⊖ var 0 ⊗ (((var 2 ⊕ var 3) ⊕ var 4) ⊖ var 5)) (var 0 ⊗ var 1 ⊖ var 0 ⊗ var 2) refl
+
+three-apart : (a b c d e f x y z u v w : ℤ) → a -ℤ b ≡ x -ℤ y → c -ℤ d ≡ z -ℤ u → e -ℤ f ≡ v -ℤ w → ((a +ℤ c) +ℤ e) -ℤ ((b +ℤ d) +ℤ f) ≡ ((x +ℤ z) +ℤ v) -ℤ ((y +ℤ u) +ℤ w)
+three-apart a b c d e f x y z u v w h i j = omega (arith, ints, h, i, j)
+
+dots-apart : (d x y t u a : V3) → dot_of d (vectors.difference (plus (plus x t) u) a) -ℤ dot_of d (vectors.difference (plus (plus y t) u) a) ≡ dot_of d x -ℤ dot_of d y
+dots-apart d x y t u a =
+    three-apart (d.x *ℤ (((x.x +ℤ t.x) +ℤ u.x) -ℤ a.x)) (d.x *ℤ (((y.x +ℤ t.x) +ℤ u.x) -ℤ a.x))
+    (d.y *ℤ (((x.y +ℤ t.y) +ℤ u.y) -ℤ a.y)) (d.y *ℤ (((y.y +ℤ t.y) +ℤ u.y) -ℤ a.y))
+    (d.z *ℤ (((x.z +ℤ t.z) +ℤ u.z) -ℤ a.z)) (d.z *ℤ (((y.z +ℤ t.z) +ℤ u.z) -ℤ a.z))
+    (d.x *ℤ x.x) (d.x *ℤ y.x) (d.y *ℤ x.y) (d.y *ℤ y.y) (d.z *ℤ x.z) (d.z *ℤ y.z)
+    (entry-apart d.x x.x y.x t.x u.x a.x) (entry-apart d.y x.y y.y t.y u.y a.y) (entry-apart d.z x.z y.z t.z u.z a.z)
+
+-- all that isn't turned cancels
+pub planes-apart : (d a : V3) (p : Placement) (offset : ℕ) (v w : V3) → exact_value (Plane d a) p offset v -ℤ exact_value (Plane d a) p offset w ≡ turned_along d p v -ℤ turned_along d p w
+planes-apart d a p offset v w =
+    dots-apart d (times (pos p.scale) (applied (matrix_of p.turn) v)) (times (pos p.scale) (applied (matrix_of p.turn) w))
+    (times (pos (norm_of p.turn)) p.shift) (times (pos (norm_of p.turn)) (offset_of p offset)) (times (pos (denominator_of p)) a)
 
 -- ---- the value of a point
 -- the ends hold the exact value

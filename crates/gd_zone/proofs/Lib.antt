@@ -1,7 +1,13 @@
 pub mod Comparisons
 pub mod Encloses
 pub mod Meeting
+pub mod Numbers
 pub mod Ordered
+pub mod Outermost
+pub mod Pairs
+pub mod Placing
+pub mod Roots
 pub mod Sizes
 pub mod Sound
+pub mod Spreads
 pub mod Unmet

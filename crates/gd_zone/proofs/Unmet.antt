@@ -12,18 +12,19 @@ use Rattle.gd_int.proofs.Orders.{at_least_from_cmp, at_most_from_cmp}
 use Rattle.gd_int.specs.Comparisons.{AtMost, RootAtMost}
 use Rattle.gd_interval.specs.Interval.{Inside}
 use Rattle.gd_points.specs.declared.table.Row.{Row}
-use Rattle.gd_quat.specs.Formulas.{Ends}
+use Rattle.gd_quat.specs.Formulas.{Ends, turned_formula}
 use Rattle.gd_quat.specs.Placements.{IsPlacement, Placement, denominator_of}
 use Rattle.gd_vec.specs.Vector.{difference, norm2_of}
 use Rattle.gd_vec.specs.declared.vector.V3.{V3}
 use Rattle.gd_zone.proofs.Comparisons.{at-most-out, ceil-root_sign, farthest-above, floor-root_sign, nearest-below, root-at_most-out, square-at_least-out, square-at_most-out}
-use Rattle.gd_zone.proofs.Encloses.{inside-value}
+use Rattle.gd_zone.proofs.Encloses.{inside-value, planes-apart, turned-along-inside, turned_along}
 use Rattle.gd_zone.proofs.Ordered.{axis-ordered, ball-ordered, norm2-nonneg}
+use Rattle.gd_zone.proofs.Spreads.{spread-moved}
 use Rattle.gd_zone.specs.Boxes.{HoldsPlacement, placed_ends}
 use Rattle.gd_zone.specs.Conditions.{DistanceDemand, Meets, MeetsDemand, PlaneDemand, belongs, cross, exact_value, four, from_surface, is_of_feature, squared_bound, twice}
 use Rattle.gd_zone.specs.Refutations.{RefutedIsUnmet, condition_refuted, distance_outside, distance_refuted, fails, is_less, is_more, plane_outside, plane_refuted, surface_refuted}
-use Rattle.gd_zone.specs.Tests.{farthest, is_at_least, is_at_most, nearest, square_bound}
-use Rattle.gd_zone.specs.Values.{value_ends}
+use Rattle.gd_zone.specs.Tests.{demanded_ends, farthest, is_at_least, is_at_most, nearest, square_bound}
+use Rattle.gd_zone.specs.Values.{along, value_ends}
 use Rattle.gd_zone.specs.declared.condition.Demand.{Demand}
 use Rattle.gd_zone.specs.declared.condition.Demand.TheVariants.{Within, Spread, Contact, HugInner, HugOuter}
 use Rattle.gd_zone.specs.declared.condition.Surface.{Surface}
@@ -165,12 +166,32 @@ module _ (b : Placed) (p : Placement) (ok : IsPlacement p) (held : HoldsPlacemen
   counts : 0 < denominator_of p
   counts = mul-pos ok.turn (omega (arith, ok.scale))
 
-  unmet-by : (s : Surface) (d : Demand)
-      → surface_refuted s d (map (λ (r : Row). value_ends s (placed_ends b) offset (difference r.at base)) rows) (map (λ (r : Row). value_ends s (placed_ends b) offset (difference r.at base)) all) ≡ true
-      → MeetsDemand s d (pos (denominator_of p)) (map (λ (r : Row). exact_value s p offset (difference r.at base)) rows) (map (λ (r : Row). exact_value s p offset (difference r.at base)) all) → ⊥
-  unmet-by (Plane n a) d h m =
+  -- a plane, but for a spread
+  plane-by : (n a : V3) (d : Demand) → plane_refuted d (norm2_of n) (map (λ (r : Row). value_ends (Plane n a) (placed_ends b) offset (difference r.at base)) rows) ≡ true
+      → PlaneDemand d (pos (denominator_of p)) (norm2_of n) (map (λ (r : Row). exact_value (Plane n a) p offset (difference r.at base)) rows) → ⊥
+  plane-by n a d h m =
       plane-unmet (norm2_of n) (denominator_of p) counts (λ (r : Row). value_ends (Plane n a) (placed_ends b) offset (difference r.at base)) (λ (r : Row). exact_value (Plane n a) p offset (difference r.at base))
       (λ r. inside-value (Plane n a) b offset (difference r.at base) p held) d rows h m
+
+  -- a spread along a direction, where all but the turned vectors cancels
+  spread-by : (n a : V3) (t : ℤ) → plane_refuted (Spread t) (norm2_of n) (map (λ (r : Row). along n (turned_formula (placed_ends b).matrix (difference r.at base))) rows) ≡ true
+      → PlaneDemand (Spread t) (pos (denominator_of p)) (norm2_of n) (map (λ (r : Row). exact_value (Plane n a) p offset (difference r.at base)) rows) → ⊥
+  spread-by n a t h m =
+      plane-unmet (norm2_of n) (denominator_of p) counts (λ (r : Row). along n (turned_formula (placed_ends b).matrix (difference r.at base))) (λ (r : Row). turned_along n p (difference r.at base))
+      (λ r. turned-along-inside n b (difference r.at base) p held) (Spread t) rows h (
+        m.0,
+        spread-moved (t *ℤ pos (denominator_of p)) (norm2_of n) (λ (r : Row). exact_value (Plane n a) p offset (difference r.at base)) (λ (r : Row). turned_along n p (difference r.at base)) rows
+            (λ v w. planes-apart n a p offset (difference v.at base) (difference w.at base)) m.1,
+      )
+
+  unmet-by : (s : Surface) (d : Demand)
+      → surface_refuted s d (map (λ (r : Row). demanded_ends s d (placed_ends b) offset (difference r.at base)) rows) (map (λ (r : Row). demanded_ends s d (placed_ends b) offset (difference r.at base)) all) ≡ true
+      → MeetsDemand s d (pos (denominator_of p)) (map (λ (r : Row). exact_value s p offset (difference r.at base)) rows) (map (λ (r : Row). exact_value s p offset (difference r.at base)) all) → ⊥
+  unmet-by (Plane n a) (Spread t) h m = spread-by n a t h m
+  unmet-by (Plane n a) (Within lo hi) h m = plane-by n a (Within lo hi) h m
+  unmet-by (Plane n a) (Contact hi) h m = plane-by n a (Contact hi) h m
+  unmet-by (Plane n a) (HugInner t) h m = plane-by n a (HugInner t) h m
+  unmet-by (Plane n a) (HugOuter t) h m = plane-by n a (HugOuter t) h m
   unmet-by (Axis n a) d h m =
       distance-unmet (norm2_of n) (norm2-nonneg n) (denominator_of p) counts (λ (r : Row). value_ends (Axis n a) (placed_ends b) offset (difference r.at base)) (λ (r : Row). exact_value (Axis n a) p offset (difference r.at base))
       (λ r. inside-value (Axis n a) b offset (difference r.at base) p held) (λ r. norm2-nonneg (cross n (from_surface p offset a (difference r.at base)))) (λ r. axis-ordered n a b offset (difference r.at base)) d rows all h m

@@ -1,9 +1,10 @@
 -- Boxes of placements: the matrix, the translation and both offsets, and what they hold.
 use Rattle.std.specs.Prelude.{pos, ◌^◌}
 use Rattle.gd_quat.specs.Boxes.{HoldsMatrix, HoldsVector, MatrixFits, VectorFits, matrix_times}
-use Rattle.gd_quat.specs.Formulas.{MatrixEnds, VectorEnds, matrix_ends, vector_ends}
+use Rattle.gd_quat.specs.Formulas.{MatrixEnds, VectorEnds, grid_ends, matrix_ends, matrix_formula, point_ends, vector_ends}
 use Rattle.gd_quat.specs.Placements.{Placement, times}
 use Rattle.gd_quat.specs.Rotations.{matrix_of, norm_of}
+use Rattle.gd_quat.specs.declared.shape.Assignment.{Assignment}
 use Rattle.gd_zone.specs.declared.placed.Placed.{Placed}
 
 -- a box holds a placement
@@ -29,3 +30,7 @@ pub record PlacedEnds : Type 0 where
 
 abbrev pub placed_ends : Placed → PlacedEnds
 placed_ends b = record { matrix = matrix_ends b.matrix; shift = vector_ends b.shift; first = vector_ends b.first; second = vector_ends b.second }
+
+-- the ends of the box of a placement of the grid
+unfoldable pub grid_placed : Assignment → PlacedEnds
+grid_placed a = record { matrix = matrix_formula (grid_ends a.face a.ratios); shift = point_ends a.shift; first = point_ends a.first; second = point_ends a.second }

@@ -1,5 +1,7 @@
 pub mod Boxes
 pub mod Conditions
+pub mod Extremes
 pub mod Refutations
+pub mod Seen
 pub mod Tests
 pub mod Values

@@ -4,13 +4,13 @@ use Rattle.std.specs.List.{list_all, list_any}
 use Rattle.std.specs.Ordering.{is_ge, is_le}
 use Rattle.gd_int.specs.Roots.{cmp_root_of}
 use Rattle.gd_points.specs.declared.table.Row.{Row}
-use Rattle.gd_quat.specs.Formulas.{Ends}
+use Rattle.gd_quat.specs.Formulas.{Ends, turned_formula}
 use Rattle.gd_quat.specs.Placements.{IsPlacement, Placement}
 use Rattle.gd_vec.specs.Vector.{difference, norm2_of}
 use Rattle.gd_vec.specs.declared.vector.V3.{V3}
 use Rattle.gd_zone.specs.Boxes.{HoldsPlacement, PlacedEnds, placed_ends}
 use Rattle.gd_zone.specs.Conditions.{IsCondition, Meets, belongs, is_of_feature}
-use Rattle.gd_zone.specs.Values.{value_ends}
+use Rattle.gd_zone.specs.Values.{along, value_ends}
 use Rattle.gd_zone.specs.declared.condition.Condition.{Condition}
 use Rattle.gd_zone.specs.declared.condition.Surface.{Surface}
 use Rattle.gd_zone.specs.declared.condition.Surface.TheVariants.{Plane, Axis, Ball}
@@ -88,9 +88,16 @@ surface_holds (Plane direction point) demand vs all = plane_holds demand (norm2_
 surface_holds (Axis direction point) demand vs all = distance_holds demand (norm2_of direction) vs all
 surface_holds (Ball point) demand vs all = distance_holds demand (pos 1) vs all
 
+-- the ends of what a demand looks at: for a spread along a direction translations, offsets and the surface's point are left out, as they cancel
+abbrev pub demanded_ends : Surface → Demand → PlacedEnds → ℕ → V3 → Ends
+demanded_ends (Plane direction point) (Spread t) b offset v = along direction (turned_formula b.matrix v)
+demanded_ends (Plane direction point) demand b offset v = value_ends (Plane direction point) b offset v
+demanded_ends (Axis direction point) demand b offset v = value_ends (Axis direction point) b offset v
+demanded_ends (Ball point) demand b offset v = value_ends (Ball point) b offset v
+
 -- the ends of the value of a point, where the part's first point is at base
 abbrev pub ends_at : PlacedEnds → V3 → Condition → Row → Ends
-ends_at b base c row = value_ends c.surface b c.offset (difference row.at base)
+ends_at b base c row = demanded_ends c.surface c.demand b c.offset (difference row.at base)
 
 unfoldable pub condition_holds : PlacedEnds → V3 → List Row → Condition → Bool
 condition_holds b base rows c =

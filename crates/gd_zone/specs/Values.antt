@@ -1,5 +1,5 @@
 -- The ends of the image of a point and of its value on a surface.
-use Rattle.std.specs.Prelude.{ℕ, pos, ◌^◌, ◌*◌, ◌==◌, ◌*ℤ◌, if◌then◌else◌}
+use Rattle.std.specs.Prelude.{ℕ, ℤ, pos, ◌^◌, ◌*◌, ◌==◌, ◌*ℤ◌, ◌≤◌, ◌≤ℤ◌, unsigned_abs, if◌then◌else◌}
 use Rattle.gd_interval.specs.Interval.{Inside}
 use Rattle.gd_interval.specs.declared.iv.Iv.{Iv}
 use Rattle.gd_quat.specs.Formulas.{Ends, VectorEnds, alone, difference, moved_formula, multiple, square, sum, turned_formula}
@@ -56,3 +56,14 @@ HoldsValue (Ball point) r p offset v = Inside r.lo r.hi (denominator_of p * deno
 
 abbrev pub EnclosesValue : Surface → Placed → ℕ → V3 → Iv → Type 0
 EnclosesValue s b offset v r = (p : Placement) → IsPlacement p → HoldsPlacement b p → HoldsValue s r p offset v
+
+-- an end of a value along a direction is within 2^60; that of a squared distance isn't below 0, and is within 2^120
+abbrev pub IsSizedEnd : Surface → ℤ → Type 0
+IsSizedEnd (Plane direction point) z = unsigned_abs z ≤ 2 ^ 60
+IsSizedEnd (Axis direction point) z = (unsigned_abs z ≤ 2 ^ 120) × (pos 0 ≤ℤ z)
+IsSizedEnd (Ball point) z = (unsigned_abs z ≤ 2 ^ 120) × (pos 0 ≤ℤ z)
+
+-- so are both
+pub record IsSized (s : Surface) (r : Iv) : Type 0 where
+  pub lo : IsSizedEnd s r.lo
+  pub hi : IsSizedEnd s r.hi

@@ -2,7 +2,7 @@
 ghost use Rattle.std.specs.Prelude.{◌≡◌, ◌^◌, ◌≤◌};
 ghost use Rattle.gd_quat.specs.Placements.{IsOnGrid, placement_of};
 ghost use Rattle.gd_vec.specs.Vector.{IsWithin};
-ghost use Rattle.gd_zone.specs.Boxes.{HoldsPlacement, IsPlaced};
+ghost use Rattle.gd_zone.specs.Boxes.{HoldsPlacement, IsPlaced, grid_placed, placed_ends};
 
 use gd_quat::{Assignment, MatrixBox, VecBox, grid_box, matrix, point_box};
 
@@ -16,11 +16,13 @@ pub struct Placed {
 }
 
 /// The box that holds a placement of the grid, as narrow as its rounding lets it be.
+#[tactic(auto, unfolding(crate::specs::Boxes::grid_placed))]
 pub fn placed_at(a: &Assignment) -> Placed
     requires grid { IsOnGrid a.now }
     requires shift { IsWithin (2 ^ 45) a.now.shift }
     requires first { IsWithin (2 ^ 45) a.now.first }
     requires second { IsWithin (2 ^ 45) a.now.second }
+    ensures ends { placed_ends result ≡ grid_placed a.now }
     ensures fits { IsPlaced result }
     ensures holds { HoldsPlacement result (placement_of a.now) }
 {

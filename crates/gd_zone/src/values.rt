@@ -1,14 +1,17 @@
 // The value of a point on a surface.
 ghost use Rattle.std.specs.Prelude.{◌≡◌, ◌+◌, ◌*◌, ◌^◌, ◌≤◌, ◌*ℤ◌, ◌≤ℤ◌, pos, unsigned_abs};
 ghost use Rattle.gd_quat.specs.Boxes.{Fits, VectorFits};
-ghost use Rattle.gd_quat.specs.Formulas.{alone, difference, ends, moved_formula, multiple, square, sum, vector_ends};
+ghost use Rattle.gd_quat.specs.Formulas.{alone, difference, ends, moved_formula, multiple, square, sum};
+ghost use Rattle.gd_quat.specs.Formulas.{turned_formula, vector_ends};
 ghost use Rattle.gd_vec.specs.Vector.{IsWithin};
 ghost use Rattle.gd_zone.specs.Boxes.{IsPlaced, placed_ends};
 ghost use Rattle.gd_zone.specs.Conditions.{IsSurface};
-ghost use Rattle.gd_zone.specs.Values.{EnclosesValue, along, across, from_point, image_ends, squares_of, still_image};
+ghost use Rattle.gd_zone.specs.Tests.{demanded_ends};
+ghost use Rattle.gd_zone.specs.Values.{EnclosesValue, IsSized, along, across, from_point, image_ends, squares_of};
+ghost use Rattle.gd_zone.specs.Values.{still_image};
 ghost use Rattle.gd_zone.specs.Values.{surface_value, value_ends};
 
-use crate::condition::Surface;
+use crate::condition::{Condition, Demand, Surface};
 use crate::placed::Placed;
 use gd_interval::{Iv, add, point, scale, sub};
 use gd_quat::{VecBox, moved, turned};
@@ -27,8 +30,50 @@ pub fn value(surface: &Surface, placed: &Placed, offset: u32, v: &V3) -> Iv
     requires v { IsWithin (2 ^ 27) v.now }
     ensures ends { ends result ≡ value_ends surface.now (placed_ends placed.now) offset v.now }
     ensures encloses { EnclosesValue surface.now placed.now offset v.now result }
+    ensures size { IsSized surface.now result }
 {
     value_on(surface, placed, offset, v)
+}
+
+// What the demand of a condition looks at: a spread along a direction only at the turned point, since the rest cancels.
+#[inline]
+pub fn demanded(condition: &Condition, placed: &Placed, v: &V3) -> Iv
+    requires surface { IsSurface condition.now.surface }
+    requires placed { IsPlaced placed.now }
+    requires v { IsWithin (2 ^ 27) v.now }
+    ensures ends { ends result ≡ demanded_ends condition.now.surface condition.now.demand (placed_ends placed.now)
+        condition.now.offset v.now }
+    ensures size { IsSized condition.now.surface result }
+{
+    match (condition.surface, condition.demand) {
+        (Surface::Plane { direction, .. }, Demand::Spread { .. }) => turned_along(
+            &direction, placed, v,
+        ),
+        _ => value(&condition.surface, placed, condition.offset, v),
+    }
+}
+
+// How far the turned vector lies along a direction.
+#[inline]
+fn turned_along(direction: &V3, placed: &Placed, v: &V3) -> Iv
+    requires direction { IsWithin (2 ^ 10) direction.now }
+    requires placed { IsPlaced placed.now }
+    requires v { IsWithin (2 ^ 27) v.now }
+    ensures ends { ends result ≡ along direction.now (turned_formula (placed_ends placed.now).matrix v.now) }
+    ensures size { Fits (2 ^ 60) result }
+{
+    dotted(direction, &turned_by(placed, v))
+}
+
+// The turned vector, in fine units.
+#[inline]
+fn turned_by(placed: &Placed, v: &V3) -> VecBox
+    requires placed { IsPlaced placed.now }
+    requires v { IsWithin (2 ^ 27) v.now }
+    ensures ends { vector_ends result ≡ turned_formula (placed_ends placed.now).matrix v.now }
+    ensures size { VectorFits (2 ^ 48) result }
+{
+    turned(&placed.matrix, v)
 }
 
 // The value, by its formula.
@@ -37,7 +82,8 @@ fn value_on(surface: &Surface, placed: &Placed, offset: u32, v: &V3) -> Iv
     requires surface { IsSurface surface.now }
     requires placed { IsPlaced placed.now }
     requires v { IsWithin (2 ^ 27) v.now }
-    ensures { ends result ≡ value_ends surface.now (placed_ends placed.now) offset v.now }
+    ensures ends { ends result ≡ value_ends surface.now (placed_ends placed.now) offset v.now }
+    ensures size { IsSized surface.now result }
 {
     on_surface(surface, &image(placed, offset, v))
 }
@@ -47,7 +93,8 @@ fn value_on(surface: &Surface, placed: &Placed, offset: u32, v: &V3) -> Iv
 fn on_surface(surface: &Surface, x: &VecBox) -> Iv
     requires surface { IsSurface surface.now }
     requires x { VectorFits (2 ^ 47 + 2 ^ 46) x.now }
-    ensures { ends result ≡ surface_value surface.now (vector_ends x.now) }
+    ensures ends { ends result ≡ surface_value surface.now (vector_ends x.now) }
+    ensures size { IsSized surface.now result }
 {
     match surface {
         Surface::Plane { direction, point } => dotted(direction, &less(x, point)),

@@ -8,7 +8,7 @@ use Rattle.gd_form.specs.Laws.Firsts.{above_least, below_greatest}
 use Rattle.gd_form.specs.Laws.Refutations.{dot-difference}
 use Rattle.gd_form.specs.FlatTests.{along, is_within, spread}
 use Rattle.gd_form.specs.Flatness.{HasZone}
-use Rattle.gd_int.proofs.Comparisons.{AtMost-below, AtMost-scale}
+use Rattle.gd_int.proofs.Comparisons.{AtMost-below}
 use Rattle.gd_int.proofs.Orders.{at_most_from_cmp}
 use Rattle.gd_int.specs.Comparisons.{AtMost}
 use Rattle.gd_points.specs.declared.table.Row.{Row}
@@ -27,9 +27,7 @@ apart rows n i j d e p q =
 pub within_is_flat : (rows : List Row) (tolerance : ℕ) (n : V3) → is_within rows tolerance n ≡ true → HasZone rows tolerance n
 within_is_flat rows tolerance n h = λ i d p j e q.
     let most : AtMost (spread (along n rows)) (pos tolerance) (norm2_of n) = (at_most_from_cmp (spread (along n rows)) (pos tolerance) (norm2_of n)).0 h in
-    let near : AtMost (dot_of n (difference (get_or rows i d).at (get_or rows j e).at)) (pos tolerance) (norm2_of n) =
-    AtMost-below (spread (along n rows)) (dot_of n (difference (get_or rows i d).at (get_or rows j e).at)) (pos tolerance) (norm2_of n) (apart rows n i j d e p q) most in
-    AtMost-scale (dot_of n (difference (get_or rows i d).at (get_or rows j e).at)) (pos tolerance) (norm2_of n) (pos 2) (omega (arith, ints)) near
+    AtMost-below (spread (along n rows)) (dot_of n (difference (get_or rows i d).at (get_or rows j e).at)) (pos tolerance) (norm2_of n) (apart rows n i j d e p q) most
 
 -- the direction of two ratios leads along its root's axis
 pub leads : (root : ℕ) (a b : ℤ) → unsigned_abs a ≤ 2 ^ 30 → unsigned_abs b ≤ 2 ^ 30 → 1 ≤ root → root ≤ 3 → LeadsAlong root (direction_of root a b)

@@ -36,10 +36,10 @@ gives_way Greater h = absurd (false≢true h)
 pub greater_refuses : (s h n : ℤ) → is_gt (cmp_root_of s h n) ≡ true → AtMost s h n → ⊥
 greater_refuses s h n g a = not_both (cmp_root_of s h n) g ((at_most_from_cmp s h n).1 a)
 
-at_most_from_not : (s h n : ℤ) → is_gt (cmp_root_of s h n) ≡ false → AtMost s h n
+pub at_most_from_not : (s h n : ℤ) → is_gt (cmp_root_of s h n) ≡ false → AtMost s h n
 at_most_from_not s h n g = (at_most_from_cmp s h n).0 (one_of_both (cmp_root_of s h n) g)
 
-not_greater : (s h n : ℤ) → AtMost s h n → is_gt (cmp_root_of s h n) ≡ false
+pub not_greater : (s h n : ℤ) → AtMost s h n → is_gt (cmp_root_of s h n) ≡ false
 not_greater s h n a = gives_way (cmp_root_of s h n) ((at_most_from_cmp s h n).1 a)
 
 -- ---- the farthest and the nearest point decide

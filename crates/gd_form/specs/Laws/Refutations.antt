@@ -9,7 +9,7 @@ use Rattle.gd_dir.specs.declared.shape.DirBox.{DirBox}
 use Rattle.gd_form.specs.Laws.Evidences.{greater_refuses, refutation}
 use Rattle.gd_form.specs.FlatTests.{first_point, high_along, highs, is_refuted, low_along, lows, most_norm2, scale_hi, scale_lo, square_hi}
 use Rattle.gd_form.specs.Flatness.{HasZone}
-use Rattle.gd_int.proofs.Comparisons.{AtMost-below, AtMost-longer, AtMost-scale_root, AtMost-unscale, AtMost-unscale_root}
+use Rattle.gd_int.proofs.Comparisons.{AtMost-below, AtMost-longer, AtMost-scale_root, AtMost-unscale_root}
 use Rattle.gd_int.proofs.Integers.{by_sign, mul-add_right, mul-assoc_ℤ, mul-sub_right, mul_comm_ℤ, mul_ge_left, mul_ge_right, mul_le_left, mul_le_mul, mul_le_right, mul_swap_ℤ, square_nonneg, ≤ℤ_trans}
 use Rattle.gd_int.specs.Comparisons.{AtMost}
 use Rattle.gd_points.specs.declared.table.Row.{Row}
@@ -118,5 +118,5 @@ refuted_is_empty rows tolerance b e k n refuted i h flat =
     let hi : get_or (highs b rows) (e.b - 1) (pos 0) ≡ high_along b (difference q (first_point rows)) = get_or-map (λ (row : Row). high_along b (difference row.at (first_point rows))) rows (e.b - 1) d (pos 0) r.near in
     let g : ℤ = get_or (lows b rows) (e.a - 1) (pos 0) -ℤ get_or (highs b rows) (e.b - 1) (pos 0) in
     let l : (k *ℤ g) ≤ℤ (one *ℤ dot_of n (difference p q)) = rw (lo, hi) (apart b k n p q (first_point rows) (omega (arith, ints, i)) h) in
-    let near : AtMost (dot_of n (difference p q)) (pos tolerance) (norm2_of n) = AtMost-unscale (dot_of n (difference p q)) (pos tolerance) (norm2_of n) (pos 2) (omega (arith, ints)) (flat (e.a - 1) d r.far (e.b - 1) d r.near) in
+    let near : AtMost (dot_of n (difference p q)) (pos tolerance) (norm2_of n) = flat (e.a - 1) d r.far (e.b - 1) d r.near in
     greater_refuses g (pos tolerance) (most_norm2 b) r.parted (within_box b k g (pos tolerance) n p q i (omega (arith, ints)) h l near)

@@ -1,0 +1,76 @@
+// The points that a form about an axis judges.
+ghost use Rattle.std.specs.Prelude.{◌≡◌, ◌<◌, ◌≤◌, ◌^◌, ◌-◌, get_or, length, true, IfSome};
+ghost use Rattle.std.specs.List.{All};
+ghost use Rattle.gd_form.specs.AxisTests.{is_judged, numbers_of};
+ghost use Rattle.gd_form.specs.FlatTests.{point_at};
+ghost use Rattle.gd_vec.specs.Vector.{IsWithin};
+
+use crate::points::{Points, place_at};
+use gd_points::PointIndex;
+use gd_vec::V3;
+
+/// The points of a table that a form judges, at least one, by their places in it, from 0.
+#[derive(Clone, Copy)]
+pub struct Judged<'a> {
+    pub points: Points<'a>,
+    pub numbers: &'a [u32],
+    ghost named: { 0 < length numbers.now },
+    ghost below: { All (λ number. number < length points.table.now.rows) numbers.now },
+}
+
+impl<'a> Judged<'a> {
+    /// The points of a feature, or of a group of it, found without a look at the whole table. `None` where there is none.
+    pub fn of(index: &'a PointIndex<'a>, feature: u32, group: Option<u32>) -> Option<Judged<'a>>
+        ensures numbers { IfSome result (λ judged. judged.numbers.now ≡ numbers_of feature group index.now.table.now.rows) }
+        ensures table { IfSome result (λ judged. judged.points.table.now.rows ≡ index.now.table.now.rows) }
+    {
+        let numbers = match group {
+            None => index.rows_of(feature),
+            Some(group) => index.rows_of_group(feature, group),
+        };
+        if numbers.is_empty() {
+            return None;
+        }
+        let table = index.table();
+        Some(Judged {
+            points: Points {
+                table,
+                columns: table.columns(),
+            },
+            numbers,
+        })
+    }
+}
+
+// The point at a place in the table, from 0, in units.
+#[inline(always)]
+pub fn point_of(points: &Points<'_>, at: usize) -> V3
+    requires { at < length points.now.table.now.rows }
+    ensures value { result ≡ point_at points.now.table.now.rows at }
+    ensures size { IsWithin (2 ^ 26) result }
+{
+    let place = place_at(points, at);
+    V3 {
+        x: i64::from(place.x),
+        y: i64::from(place.y),
+        z: i64::from(place.z),
+    }
+}
+
+// The place in the table of a judged point, by its place among them.
+#[inline(always)]
+pub fn number_at(judged: &Judged<'_>, at: usize) -> usize
+    requires { at < length judged.now.numbers.now }
+    ensures value { result ≡ get_or judged.now.numbers.now at 0 }
+    ensures inside { result < length judged.now.points.table.now.rows }
+{
+    judged.numbers[at] as usize
+}
+
+// Whether this is the number of a judged point, from 1.
+pub fn is_judged(judged: &Judged<'_>, number: u32) -> bool
+    ensures value { result ≡ is_judged judged.now.numbers.now number }
+    ensures inside { result ≡ true → number - 1 < length judged.now.points.table.now.rows }
+{
+    1 <= number && judged.numbers.contains(&(number - 1))
+}

@@ -1,0 +1,9 @@
+use Rattle.std.proofs.Common.{◌≡◌, ◌<◌, ℕ, get_or, true}
+use Rattle.gd_zone.specs.Boxes.{placed_ends}
+use Rattle.gd_zone.specs.Extremes.{ends_by, value_within}
+use Rattle.gd_zone.proofs.holding.all_within.Given as goal
+
+abbrev pub invariant-loop-at : goal.invariant-loop-at
+invariant-loop-at l = record {
+  within : (j : ℕ) → j < l.at → value_within l.view.condition.now.surface l.lo l.hi (ends_by (placed_ends l.view.placed.now) l.view.base.now l.view.condition.now l.view.index.now.table.now.rows (get_or l.numbers j 0)) ≡ true;
+}

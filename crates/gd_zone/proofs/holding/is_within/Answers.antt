@@ -1,0 +1,13 @@
+use Rattle.std.proofs.Common.{rules, FitsSigned, ◌≡◌, ◌∙◌}
+use Rattle.std.proofs.lemmas.Int.{to_z-of_z}
+use Rattle.std.specs.Int.{w128}
+use Rattle.gd_quat.specs.Formulas.{ends}
+use Rattle.gd_zone.proofs.Pairs.{within-axis}
+use Rattle.gd_zone.specs.Tests.{distance_within}
+use Rattle.gd_zone.proofs.holding.is_within.Goals as goal
+
+pub returns-in-Axis : goal.returns-in-Axis
+returns-in-Axis c =
+    let n : FitsSigned w128 c.length2-n2.result = search rules in
+    let e : c.is_distance_within.result ≡ distance_within c.args.lo c.args.hi c.length2-n2.result (ends c.args.value) = rw (to_z-of_z w128 c.length2-n2.result n) at c.is_distance_within.ensures in
+    e ∙ within-axis c.args.surface.now c.in-Axis.direction c.in-Axis.point c.args.lo c.args.hi (ends c.args.value) c.length2-n2.result c.in-Axis.is c.length2-n2.ensures.value
