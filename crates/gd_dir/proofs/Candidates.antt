@@ -16,7 +16,7 @@ use Rattle.gd_dir.specs.FormPlaces.{WitnessesAreCandidates, dims_of, direction_a
 use Rattle.gd_dir.specs.Forms.{IsCandidate, IsNear, cells_of, coordinates_of, leading_axis, offset, ratio, roots_of}
 use Rattle.gd_dir.specs.declared.shape.FormShape.{FormShape}
 use Rattle.gd_dir.specs.declared.shape.FormShape.TheVariants.{Flat, Line, Circle, Cylinder}
-use Rattle.gd_grid.proofs.Grids.{cells_have_boxes}
+use Rattle.gd_grid.proofs.Grids.{all_have_boxes}
 use Rattle.gd_grid.proofs.Numbers.{in_range_means}
 use Rattle.gd_grid.proofs.Ranges.{within_about}
 use Rattle.gd_grid.specs.Cells.{number_at}
@@ -44,7 +44,7 @@ are_coordinates Cylinder shift h = are_lines shift h
 
 pub have_boxes : (shape : FormShape) (shift : ℕ) (c : Cell) → shift ≤ LARGE_SHIFT → IsCell (cells_of shape shift) c
     → HaveBoxes (coordinates_of shape shift) c
-have_boxes shape shift c h cell = cells_have_boxes (roots_of shape)
+have_boxes shape shift c h cell = all_have_boxes (roots_of shape)
     (coordinates_of shape shift) c (are_coordinates shape shift h) cell
 
 -- ---- directions

@@ -155,8 +155,8 @@ coordinates_make_grid roots ks one four are = (
   },
 )
 
-pub cells_have_boxes : CellsHaveBoxes
-cells_have_boxes roots ks c are cell n h =
+pub all_have_boxes : CellsHaveBoxes
+all_have_boxes roots ks c are cell n h =
     let g : Grid = grid_of roots ks in
     let l : c.level ≡ cell.level = ap (λ (d : Cell). d.level) cell.same ∙ level_at g cell.root cell.level cell.path in
     let t : halvings g n c.level ≡ turns (length ks) n c.level = turns_are_halvings roots ks n c.level h in
@@ -174,3 +174,8 @@ cells_have_boxes roots ks c are cell n h =
       halvings = omega (arith, t, more, end, turns_leave ks n h);
       index = subst (λ m. get_or c.index n 0 < 2 ^ m) t small;
     }
+
+-- one of them
+pub cells_have_boxes : (roots : ℕ) (ks : List Coordinate) (c : Cell) (n : ℕ) → AreCoordinates ks
+    → IsCell (grid_of roots ks) c → n < length ks → HasBox (coordinate_at ks n) n (length ks) c
+cells_have_boxes roots ks c n are cell h = all_have_boxes roots ks c are cell n h

@@ -6,7 +6,7 @@ use Rattle.gd_base.specs.Limits.{LARGE_COORDINATE, LARGE_SHIFT, TURN}
 use Rattle.gd_cells.specs.Grid.{IsCell}
 use Rattle.gd_cells.specs.declared.cell.Cell.{Cell}
 use Rattle.gd_grid.proofs.Ranges.{about_is}
-use Rattle.gd_grid.proofs.Grids.{cells_have_boxes, coordinates_make_grid}
+use Rattle.gd_grid.proofs.Grids.{all_have_boxes, coordinates_make_grid}
 use Rattle.gd_grid.specs.Cells.{IsGridOf, coordinate_at, high_in, index_at, low_in}
 use Rattle.gd_grid.specs.Coordinates.{IsCoordinate, high_after, low_after}
 use Rattle.gd_grid.specs.Laws.{AreCoordinates, HaveBoxes}
@@ -100,7 +100,7 @@ default_is r (suc (suc (suc (suc (suc (suc m)))))) some h = later_is r m (omega 
 pub has_box : (r : Ranges) (c : Cell) (n : ℕ) → AreRanges r → IsCell (cells_of r) c → n < 3 * r.offsets + 6
     → HasBox (coordinate_at (coordinates_of r) n) n (3 * r.offsets + 6) c
 has_box r c n are cell h = subst (λ dims. HasBox (coordinate_at (coordinates_of r) n) n dims c) (length_of r)
-    (cells_have_boxes (roots_of r.turn)
+    (all_have_boxes (roots_of r.turn)
     (coordinates_of r) c (are_coordinates r are) cell n (omega (arith, h, length_of r)))
 
 -- its ends, by the number of coordinates
@@ -133,4 +133,4 @@ pub few_dims : (r : Ranges) → AreRanges r → length (coordinates_of r) ≤ 12
 few_dims r are = (are_coordinates r are).few
 
 pub have_boxes : (r : Ranges) (c : Cell) → AreRanges r → IsCell (cells_of r) c → HaveBoxes (coordinates_of r) c
-have_boxes r c are cell = cells_have_boxes (roots_of r.turn) (coordinates_of r) c (are_coordinates r are) cell
+have_boxes r c are cell = all_have_boxes (roots_of r.turn) (coordinates_of r) c (are_coordinates r are) cell

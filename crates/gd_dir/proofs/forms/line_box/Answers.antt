@@ -3,7 +3,7 @@ use Rattle.gd_dir.proofs.FormCells.{are_lines, with_offsets}
 use Rattle.gd_dir.specs.FormBoxes.{offset_at}
 use Rattle.gd_dir.specs.Forms.{cells_of, coordinates_of}
 use Rattle.gd_dir.specs.declared.shape.FormShape.TheVariants.{Line}
-use Rattle.gd_grid.proofs.Grids.{cells_have_boxes}
+use Rattle.gd_grid.proofs.Grids.{all_have_boxes}
 use Rattle.gd_grid.proofs.Steps.{cell_root}
 use Rattle.gd_grid.specs.Cells.{high_in, low_in}
 use Rattle.gd_grid.specs.Turns.{HasBox}
@@ -11,13 +11,13 @@ use Rattle.gd_dir.proofs.forms.line_box.Goals as goal
 
 pub coordinate_box-third-requires : goal.coordinate_box-third-requires
 coordinate_box-third-requires c = subst (λ k. HasBox k 2 4 c.args.c.now) (sym c.about-offset.ensures)
-    (cells_have_boxes 3 (coordinates_of Line c.args.shift) c.args.c.now (are_lines c.args.shift c.requires.shift)
+    (all_have_boxes 3 (coordinates_of Line c.args.shift) c.args.c.now (are_lines c.args.shift c.requires.shift)
     c.requires.cell 2 (omega arith))
 
 pub coordinate_box-fourth-requires : goal.coordinate_box-fourth-requires
 coordinate_box-fourth-requires c = subst
     (λ k. HasBox k 3 4 c.args.c.now) (sym c.about-offset.ensures)
-    (cells_have_boxes 3 (coordinates_of Line c.args.shift) c.args.c.now (are_lines c.args.shift c.requires.shift)
+    (all_have_boxes 3 (coordinates_of Line c.args.shift) c.args.c.now (are_lines c.args.shift c.requires.shift)
     c.requires.cell 3 (omega arith))
 
 pub ratios_box-requires : goal.ratios_box-requires
@@ -26,9 +26,9 @@ ratios_box-requires c =
     record {
       first_root = root.0;
       last_root = root.1;
-      first = cells_have_boxes 3 (coordinates_of Line c.args.shift) c.args.c.now (are_lines c.args.shift
+      first = all_have_boxes 3 (coordinates_of Line c.args.shift) c.args.c.now (are_lines c.args.shift
           c.requires.shift) c.requires.cell 0 (omega arith);
-      second = cells_have_boxes 3 (coordinates_of Line c.args.shift) c.args.c.now (are_lines c.args.shift
+      second = all_have_boxes 3 (coordinates_of Line c.args.shift) c.args.c.now (are_lines c.args.shift
           c.requires.shift) c.requires.cell 1 (omega arith);
     }
 
