@@ -6,12 +6,12 @@ use Rattle.std.proofs.lemmas.Bool.Decides.{nat_tests}
 use Rattle.std.proofs.lemmas.Nat.{div-add-mod', div-mul-add, mod-mul-add}
 use Rattle.std.proofs.Math.Nat.{min-le_left, min-le_right, mod-eq_of_lt, mod-lt, mul-le-mul_right, zero-div}
 use Rattle.gd_cells.proofs.Cells.{index_small, level_at}
-use Rattle.gd_cells.specs.Grid.{Grid, halvings}
+use Rattle.gd_cells.specs.Grid.{Grid, IsCell, halvings}
 use Rattle.gd_cells.specs.declared.cell.Cell.{Cell}
 use Rattle.gd_grid.proofs.Steps.{halvings_grow}
 use Rattle.gd_grid.specs.Cells.{coordinate_at}
-use Rattle.gd_grid.specs.Laws.{CellsHaveBoxes, CoordinatesMakeGrid, TurnsAreHalvings}
-use Rattle.gd_grid.specs.Turns.{at_turn, full_turns, grid_of, turns}
+use Rattle.gd_grid.specs.Laws.{AreCoordinates, CellsHaveBoxes, CoordinatesMakeGrid, TurnsAreHalvings}
+use Rattle.gd_grid.specs.Turns.{HasBox, at_turn, full_turns, grid_of, turns}
 use Rattle.gd_grid.specs.declared.coordinate.Coordinate.{Coordinate}
 
 -- ---- one step more
