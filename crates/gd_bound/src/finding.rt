@@ -15,7 +15,7 @@ ghost use Rattle.gd_zone.specs.declared.condition.Demand.TheVariants.{Contact, H
 use crate::evidence::{all_above, exceeds_group, group_exceeds, passes_by_more};
 use crate::outside::is_outside;
 use crate::pair::Pair;
-use crate::threshold::{first_high, first_low, from_one, high_threshold, low_threshold};
+use crate::threshold::{first_far, first_near, from_one, high_threshold, low_threshold};
 use gd_cells::Evidence;
 use gd_points::PointIndex;
 use gd_vec::V3;
@@ -75,8 +75,8 @@ fn spread_pair(view: &View<'_>, t: i64) -> Option<Pair>
         Some(x) => {
             if passes_by_more(surface, x.greatest, x.least, t) {
                 Some(Pair {
-                    a: first_low(view, numbers, low_threshold(surface, x.greatest.lo)),
-                    b: first_high(view, numbers, high_threshold(surface, x.least.hi)),
+                    a: first_far(view, numbers, low_threshold(surface, x.greatest.lo)),
+                    b: first_near(view, numbers, high_threshold(surface, x.least.hi)),
                 })
             } else {
                 None
@@ -115,7 +115,7 @@ fn inner_pair(view: &View<'_>, slack: i64) -> Option<Pair>
             if group_exceeds(view, slack, x.least) {
                 Some(Pair {
                     a: 0,
-                    b: first_high(
+                    b: first_near(
                         view,
                         numbers,
                         high_threshold(&view.condition.surface, x.least.hi),
@@ -142,7 +142,7 @@ fn outer_pair(view: &View<'_>, slack: i64) -> Option<Pair>
         Some(x) => {
             if exceeds_group(view, slack, x.greatest) {
                 Some(Pair {
-                    a: first_low(
+                    a: first_far(
                         view,
                         numbers,
                         low_threshold(&view.condition.surface, x.greatest.lo),

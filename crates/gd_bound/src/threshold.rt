@@ -52,7 +52,7 @@ pub fn from_one(number: u32) -> u32
 }
 
 // Whether the lower end of a point isn't below a threshold.
-fn is_high(view: &View<'_>, number: u32, threshold: i128) -> bool
+fn is_far(view: &View<'_>, number: u32, threshold: i128) -> bool
     requires condition { IsCondition view.now.condition.now }
     requires number { number < length (rows_in view.now) }
     ensures { result ≡ int_le threshold (value_in view.now number).lo }
@@ -61,7 +61,7 @@ fn is_high(view: &View<'_>, number: u32, threshold: i128) -> bool
 }
 
 // Whether the upper end of a point isn't above a threshold.
-fn is_low(view: &View<'_>, number: u32, threshold: i128) -> bool
+fn is_near(view: &View<'_>, number: u32, threshold: i128) -> bool
     requires condition { IsCondition view.now.condition.now }
     requires number { number < length (rows_in view.now) }
     ensures { result ≡ int_le (value_in view.now number).hi threshold }
@@ -69,6 +69,7 @@ fn is_low(view: &View<'_>, number: u32, threshold: i128) -> bool
     is_at_most(view.value(number).hi, threshold)
 }
 
+// Whether one end is at most another.
 fn is_at_most(a: i128, b: i128) -> bool
     ensures { result ≡ int_le a b }
 {
@@ -76,13 +77,13 @@ fn is_at_most(a: i128, b: i128) -> bool
 }
 
 /// The number from 1 of the first of some points whose lower end isn't below a threshold, and 0 where there is none.
-pub fn first_low(view: &View<'_>, numbers: &[u32], threshold: i128) -> u32
+pub fn first_far(view: &View<'_>, numbers: &[u32], threshold: i128) -> u32
     requires condition { IsCondition view.now.condition.now }
     requires below { All (λ number. number < length (rows_in view.now)) numbers.now }
     ensures { result ≡ point_number (find (λ i. int_le threshold (value_in view.now i).lo) numbers.now) }
 {
     for at in 0..numbers.len() {
-        if is_high(view, numbers[at], threshold) {
+        if is_far(view, numbers[at], threshold) {
             return from_one(numbers[at]);
         }
     }
@@ -90,13 +91,13 @@ pub fn first_low(view: &View<'_>, numbers: &[u32], threshold: i128) -> u32
 }
 
 /// The number from 1 of the first of some points whose upper end isn't above a threshold, and 0 where there is none.
-pub fn first_high(view: &View<'_>, numbers: &[u32], threshold: i128) -> u32
+pub fn first_near(view: &View<'_>, numbers: &[u32], threshold: i128) -> u32
     requires condition { IsCondition view.now.condition.now }
     requires below { All (λ number. number < length (rows_in view.now)) numbers.now }
     ensures { result ≡ point_number (find (λ i. int_le (value_in view.now i).hi threshold) numbers.now) }
 {
     for at in 0..numbers.len() {
-        if is_low(view, numbers[at], threshold) {
+        if is_near(view, numbers[at], threshold) {
             return from_one(numbers[at]);
         }
     }

@@ -1,7 +1,7 @@
 // The points of a task: their table, and beside it their coordinates axis by axis.
 ghost use Rattle.std.specs.Prelude.{◌≡◌, ◌<◌, ◌≤◌, ◌*◌, ◌^◌, length};
 ghost use Rattle.std.specs.List.{All};
-ghost use Rattle.gd_base.specs.Limits.{POINTS};
+ghost use Rattle.gd_base.specs.Limits.{COORDINATE, POINTS};
 ghost use Rattle.gd_form.specs.FlatTests.{point_at};
 ghost use Rattle.gd_points.specs.Columns.{AreColumns};
 ghost use Rattle.gd_vec.specs.Vector.{IsWithin};
@@ -15,7 +15,7 @@ pub struct Points<'a> {
     pub columns: Columns<'a>,
     ghost some: { 0 < length table.now.rows },
     ghost few: { length table.now.rows ≤ POINTS },
-    ghost within: { All (λ row. IsWithin 8000000 row.at) table.now.rows },
+    ghost within: { All (λ row. IsWithin COORDINATE row.at) table.now.rows },
     ghost same: { AreColumns columns.x.now columns.y.now columns.z.now table.now.rows },
 }
 
@@ -32,7 +32,7 @@ pub struct Place {
 pub fn place_at(points: &Points<'_>, at: usize) -> Place
     requires { at < length points.now.table.now.rows }
     ensures value { record { x = result.x; y = result.y; z = result.z } ≡ point_at points.now.table.now.rows at }
-    ensures size { IsWithin 8000000 (point_at points.now.table.now.rows at) }
+    ensures size { IsWithin COORDINATE (point_at points.now.table.now.rows at) }
 {
     Place {
         x: points.columns.x[at],

@@ -69,7 +69,7 @@ impl ColumnLists {
         requires x_room { vec_len self.old.x < vec_capacity self.old.x }
         requires y_room { vec_len self.old.y < vec_capacity self.old.y }
         requires z_room { vec_len self.old.z < vec_capacity self.old.z }
-        requires within { IsWithin 8000000 at.now }
+        requires within { IsWithin COORDINATE at.now }
         ensures x { self.new.x.items ≡ self.old.x.items ++ at.now.x ∷ [] }
         ensures y { self.new.y.items ≡ self.old.y.items ++ at.now.y ∷ [] }
         ensures z { self.new.z.items ≡ self.old.z.items ++ at.now.z ∷ [] }

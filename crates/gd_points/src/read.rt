@@ -2,7 +2,7 @@
 ghost use Rattle.std.specs.Prelude.{◌≡◌, ◌<◌, ◌≤◌, ◌≤ℤ◌, ◌<ℤ◌, ℤ, pos, negsuc, Some, None, IfOk, length, option_map};
 ghost use Rattle.std.specs.Prelude.{unsigned_abs};
 ghost use Rattle.gd_base.specs.Causes.{Gives, input_cause};
-ghost use Rattle.gd_base.specs.Limits.{COORDINATE};
+ghost use Rattle.gd_base.specs.Limits.{COORDINATE, GROUP};
 ghost use Rattle.csv.specs.Reading.{default_config, records, strip_bom};
 ghost use Rattle.csv.specs.Records.{fields_of, field_at};
 ghost use Rattle.gd_base.specs.Names.{name_of};
@@ -187,8 +187,8 @@ fn read_point(
 ) -> Result<PointRead, ReadFault>
     ensures answers { Gives input_cause (shown table.now) result (point_in row (seen fields.now)) }
     ensures named { IfOk result (λ point. IsNamed table.now.names point.name) }
-    ensures group { IfOk result (λ point. point.group ≤ 999) }
-    ensures within { IfOk result (λ point. IsWithin 8000000 point.at) }
+    ensures group { IfOk result (λ point. point.group ≤ GROUP) }
+    ensures within { IfOk result (λ point. IsWithin COORDINATE point.at) }
 {
     let name = read_name(alloc, table, fields.name, row)?;
     let group = read_group(fields.group, row)?;
@@ -212,7 +212,7 @@ fn read_name(alloc: Global, table: &PointTable, field: &[u8], row: u32) -> Resul
 
 fn read_group(field: &[u8], row: u32) -> Result<u32, ReadFault>
     ensures answers { Gives input_cause (λ group. group) result (group_in row field.now) }
-    ensures within { IfOk result (λ group. group ≤ 999) }
+    ensures within { IfOk result (λ group. group ≤ GROUP) }
 {
     let group = read_within(field, row, 2, 0, i64::from(limits::GROUP))?;
     Ok(group.unsigned_abs() as u32)
@@ -220,7 +220,7 @@ fn read_group(field: &[u8], row: u32) -> Result<u32, ReadFault>
 
 fn read_place(fields: &Fields<'_>, row: u32) -> Result<V3, ReadFault>
     ensures answers { Gives input_cause (λ at. at) result (place_in row (seen fields.now)) }
-    ensures within { IfOk result (λ at. IsWithin 8000000 at) }
+    ensures within { IfOk result (λ at. IsWithin COORDINATE at) }
 {
     let x = read_coordinate(fields.x, row, 3)?;
     let y = read_coordinate(fields.y, row, 4)?;

@@ -7,7 +7,7 @@ ghost use Rattle.gd_points.specs.Table.{AreNames};
 ghost use Rattle.gd_base.specs.Names.{is_name};
 ghost use Rattle.std.specs.Cmp.Lexicographic.{pointwise};
 ghost use Rattle.std.specs.List.{All, Any, IsDistinct, position_or_len};
-ghost use Rattle.gd_base.specs.Limits.{POINTS};
+ghost use Rattle.gd_base.specs.Limits.{COORDINATE, GROUP, POINTS};
 ghost use Rattle.gd_points.specs.Columns.{AreColumns, label_of};
 ghost use Rattle.gd_vec.specs.Vector.{IsWithin};
 
@@ -114,8 +114,8 @@ impl PointTable {
     pub fn push(&mut self, named: Named, group: u32, at: V3) -> Result<(), Memory>
         requires room { length self.old.rows < POINTS }
         requires named { IsNamed self.old.names named }
-        requires group { group ≤ 999 }
-        requires within { IsWithin 8000000 at }
+        requires group { group ≤ GROUP }
+        requires within { IsWithin COORDINATE at }
         ensures ok { OnOk result (self.new ≡ with_point self.old (name_in self.old.names named) group at) }
         ensures err { OnErr result (self.new ≡ self.old) }
     {
@@ -161,8 +161,8 @@ impl PointTable {
     pub fn row(&self, at: usize) -> Option<Row>
         ensures row { result ≡ slice_get self.now.rows at }
         ensures features { All (λ row. row.feature < length self.now.names) self.now.rows }
-        ensures groups { All (λ row. row.group ≤ 999) self.now.rows }
-        ensures within { All (λ row. IsWithin 8000000 row.at) self.now.rows }
+        ensures groups { All (λ row. row.group ≤ GROUP) self.now.rows }
+        ensures within { All (λ row. IsWithin COORDINATE row.at) self.now.rows }
     {
         let label = self.labels.get(at)?;
         Some(Row {
@@ -176,7 +176,7 @@ impl PointTable {
     pub(crate) fn labels(&self) -> &[Label]
         ensures labels { result.now ≡ map label_of self.now.rows }
         ensures few { length result.now ≤ POINTS }
-        ensures groups { All (λ row. row.group ≤ 999) self.now.rows }
+        ensures groups { All (λ row. row.group ≤ GROUP) self.now.rows }
     {
         self.labels.as_slice()
     }
@@ -185,7 +185,7 @@ impl PointTable {
     pub fn columns(&self) -> Columns<'_>
         ensures columns { AreColumns result.x.now result.y.now result.z.now self.now.rows }
         ensures few { length self.now.rows ≤ POINTS }
-        ensures within { All (λ row. IsWithin 8000000 row.at) self.now.rows }
+        ensures within { All (λ row. IsWithin COORDINATE row.at) self.now.rows }
     {
         Columns {
             x: self.columns.x.as_slice(),

@@ -37,9 +37,9 @@ returns-then-group_exceeds c =
     let v : FitsSigned w128 c.in-Some.x.least.hi = search rules in
     let q : FitsSigned w128 c.high_threshold.result = search rules in
     let r : c.high_threshold.result ≡ high_threshold s c.in-Some.x.least.hi = rw (to_z-of_z w128 c.in-Some.x.least.hi v) at c.high_threshold.ensures in
-    let l : c.first_high.result ≡ point_number (find (λ i. int_le (f i).hi (high_threshold s c.in-Some.x.least.hi)) ms) = rw (to_z-of_z w128 c.high_threshold.result q, r, c.feature-numbers.ensures.all) at c.first_high.ensures in
-    let near : c.first_high.result ≡ point_number (first_lowest (λ i. high_end s (f i).hi) ms) = l ∙ ap point_number (first-high-is s f ms c.in-Some.x.least.hi a.least_hi) in
-    chosen.inner-then s f ns ms c.args.slack c.requires.pair (ends x.least) (ends x.greatest) c.first_high.result a (sym e ∙ c.if-group_exceeds.true) near
+    let l : c.first_near.result ≡ point_number (find (λ i. int_le (f i).hi (high_threshold s c.in-Some.x.least.hi)) ms) = rw (to_z-of_z w128 c.high_threshold.result q, r, c.feature-numbers.ensures.all) at c.first_near.ensures in
+    let near : c.first_near.result ≡ point_number (first_lowest (λ i. high_end s (f i).hi) ms) = l ∙ ap point_number (first-high-is s f ms c.in-Some.x.least.hi a.least_hi) in
+    chosen.inner-then s f ns ms c.args.slack c.requires.pair (ends x.least) (ends x.greatest) c.first_near.result a (sym e ∙ c.if-group_exceeds.true) near
 
 pub returns-else-group_exceeds : goal.returns-else-group_exceeds
 returns-else-group_exceeds c =

@@ -37,9 +37,9 @@ returns-then-exceeds_group c =
     let u : FitsSigned w128 c.in-Some.x.greatest.lo = search rules in
     let p : FitsSigned w128 c.low_threshold.result = search rules in
     let t : c.low_threshold.result ≡ low_threshold s c.in-Some.x.greatest.lo = rw (to_z-of_z w128 c.in-Some.x.greatest.lo u) at c.low_threshold.ensures in
-    let k : c.first_low.result ≡ point_number (find (λ i. int_le (low_threshold s c.in-Some.x.greatest.lo) (f i).lo) ms) = rw (to_z-of_z w128 c.low_threshold.result p, t, c.feature-numbers.ensures.all) at c.first_low.ensures in
-    let far : c.first_low.result ≡ point_number (first_highest (λ i. low_end s (f i).lo) ms) = k ∙ ap point_number (first-low-is s f ms c.in-Some.x.greatest.lo (signs c.args.view.now.placed.now c.args.view.now.base.now c.args.view.now.condition.now c.args.view.now.index.now.table.now.rows) a.greatest_lo) in
-    chosen.outer-then s f ns ms c.args.slack c.requires.pair (ends x.least) (ends x.greatest) c.first_low.result a (sym e ∙ c.if-exceeds_group.true) far
+    let k : c.first_far.result ≡ point_number (find (λ i. int_le (low_threshold s c.in-Some.x.greatest.lo) (f i).lo) ms) = rw (to_z-of_z w128 c.low_threshold.result p, t, c.feature-numbers.ensures.all) at c.first_far.ensures in
+    let far : c.first_far.result ≡ point_number (first_highest (λ i. low_end s (f i).lo) ms) = k ∙ ap point_number (first-low-is s f ms c.in-Some.x.greatest.lo (signs c.args.view.now.placed.now c.args.view.now.base.now c.args.view.now.condition.now c.args.view.now.index.now.table.now.rows) a.greatest_lo) in
+    chosen.outer-then s f ns ms c.args.slack c.requires.pair (ends x.least) (ends x.greatest) c.first_far.result a (sym e ∙ c.if-exceeds_group.true) far
 
 pub returns-else-exceeds_group : goal.returns-else-exceeds_group
 returns-else-exceeds_group c =

@@ -36,14 +36,14 @@ returns-then-passes_by_more c =
     let u : FitsSigned w128 c.in-Some.x.greatest.lo = search rules in
     let p : FitsSigned w128 c.low_threshold.result = search rules in
     let t : c.low_threshold.result ≡ low_threshold s c.in-Some.x.greatest.lo = rw (to_z-of_z w128 c.in-Some.x.greatest.lo u) at c.low_threshold.ensures in
-    let k : c.first_low.result ≡ point_number (find (λ i. int_le (low_threshold s c.in-Some.x.greatest.lo) (f i).lo) ns) = rw (to_z-of_z w128 c.low_threshold.result p, t, c.points-numbers.ensures.all) at c.first_low.ensures in
-    let far : c.first_low.result ≡ point_number (first_highest (λ i. low_end s (f i).lo) ns) = k ∙ ap point_number (first-low-is s f ns c.in-Some.x.greatest.lo (signs c.args.view.now.placed.now c.args.view.now.base.now c.args.view.now.condition.now c.args.view.now.index.now.table.now.rows) a.greatest_lo) in
+    let k : c.first_far.result ≡ point_number (find (λ i. int_le (low_threshold s c.in-Some.x.greatest.lo) (f i).lo) ns) = rw (to_z-of_z w128 c.low_threshold.result p, t, c.points-numbers.ensures.all) at c.first_far.ensures in
+    let far : c.first_far.result ≡ point_number (first_highest (λ i. low_end s (f i).lo) ns) = k ∙ ap point_number (first-low-is s f ns c.in-Some.x.greatest.lo (signs c.args.view.now.placed.now c.args.view.now.base.now c.args.view.now.condition.now c.args.view.now.index.now.table.now.rows) a.greatest_lo) in
     let v : FitsSigned w128 c.in-Some.x.least.hi = search rules in
     let q : FitsSigned w128 c.high_threshold.result = search rules in
     let r : c.high_threshold.result ≡ high_threshold s c.in-Some.x.least.hi = rw (to_z-of_z w128 c.in-Some.x.least.hi v) at c.high_threshold.ensures in
-    let l : c.first_high.result ≡ point_number (find (λ i. int_le (f i).hi (high_threshold s c.in-Some.x.least.hi)) ns) = rw (to_z-of_z w128 c.high_threshold.result q, r, c.points-numbers.ensures.all) at c.first_high.ensures in
-    let near : c.first_high.result ≡ point_number (first_lowest (λ i. high_end s (f i).hi) ns) = l ∙ ap point_number (first-high-is s f ns c.in-Some.x.least.hi a.least_hi) in
-    chosen.spread-then s f ns ms c.args.t (ends x.least) (ends x.greatest) c.first_low.result c.first_high.result a (sym e ∙ c.if-passes_by_more.true) far near
+    let l : c.first_near.result ≡ point_number (find (λ i. int_le (f i).hi (high_threshold s c.in-Some.x.least.hi)) ns) = rw (to_z-of_z w128 c.high_threshold.result q, r, c.points-numbers.ensures.all) at c.first_near.ensures in
+    let near : c.first_near.result ≡ point_number (first_lowest (λ i. high_end s (f i).hi) ns) = l ∙ ap point_number (first-high-is s f ns c.in-Some.x.least.hi a.least_hi) in
+    chosen.spread-then s f ns ms c.args.t (ends x.least) (ends x.greatest) c.first_far.result c.first_near.result a (sym e ∙ c.if-passes_by_more.true) far near
 
 pub returns-else-passes_by_more : goal.returns-else-passes_by_more
 returns-else-passes_by_more c =

@@ -7,23 +7,23 @@ use Rattle.gd_quat.specs.Formulas.{Ends}
 use Rattle.gd_zone.proofs.Outermost.{below-more}
 use Rattle.gd_zone.specs.Boxes.{placed_ends}
 use Rattle.gd_zone.specs.Extremes.{ends_by}
-use Rattle.gd_bound.proofs.threshold.first_high.Goals as goal
+use Rattle.gd_bound.proofs.threshold.first_near.Goals as goal
 
-pub returns-then-is_low : goal.returns-then-is_low
-returns-then-is_low c =
+pub returns-then-is_near : goal.returns-then-is_near
+returns-then-is_near c =
     let f : ℕ → Ends = ends_by (placed_ends c.args.view.now.placed.now) c.args.view.now.base.now c.args.view.now.condition.now c.args.view.now.index.now.table.now.rows in
     let n : FitsSigned w128 c.args.threshold = search rules in
-    let r = rw (to_z-of_z w128 c.args.threshold n) at c.is_low.ensures in
-    let e : c.is_low.result ≡ int_le (f (get_or c.args.numbers.now c.loop-at.at 0)).hi c.args.threshold = search rules in
+    let r = rw (to_z-of_z w128 c.args.threshold n) at c.is_near.ensures in
+    let e : c.is_near.result ≡ int_le (f (get_or c.args.numbers.now c.loop-at.at 0)).hi c.args.threshold = search rules in
     let one : c.from_one.result ≡ get_or c.args.numbers.now c.loop-at.at 0 + 1 = search rules in
-    one ∙ number-here (λ i. int_le (f i).hi c.args.threshold) c.args.numbers.now c.loop-at.at (omega (arith, c.loop-at-test.true)) (rw (to_z-of_z w128 c.args.threshold n) at c.loop-at.invariant.none) (sym e ∙ c.if-is_low.true)
+    one ∙ number-here (λ i. int_le (f i).hi c.args.threshold) c.args.numbers.now c.loop-at.at (omega (arith, c.loop-at-test.true)) (rw (to_z-of_z w128 c.args.threshold n) at c.loop-at.invariant.none) (sym e ∙ c.if-is_near.true)
 
 pub loop-at-preserved : goal.loop-at-preserved
 loop-at-preserved c =
     let f : ℕ → Ends = ends_by (placed_ends c.args.view.now.placed.now) c.args.view.now.base.now c.args.view.now.condition.now c.args.view.now.index.now.table.now.rows in
     let t : ℤ = to_z w128 (of_z w128 c.args.threshold) in
-    let e : c.is_low.result ≡ int_le (f (get_or c.args.numbers.now c.loop-at.at 0)).hi t = search rules in
-    record { none = below-more (λ j. int_le (f (get_or c.args.numbers.now j 0)).hi t ≡ false) c.loop-at.at c.loop-at.invariant.none (sym e ∙ c.if-is_low.false) }
+    let e : c.is_near.result ≡ int_le (f (get_or c.args.numbers.now c.loop-at.at 0)).hi t = search rules in
+    record { none = below-more (λ j. int_le (f (get_or c.args.numbers.now j 0)).hi t ≡ false) c.loop-at.at c.loop-at.invariant.none (sym e ∙ c.if-is_near.false) }
 
 pub returns : goal.returns
 returns c =

@@ -2,7 +2,7 @@ use Rattle.std.proofs.Common.{◌≡◌, ◌<◌, ℕ, get_or, false}
 use Rattle.std.specs.Prelude.{int_le}
 use Rattle.gd_zone.specs.Boxes.{placed_ends}
 use Rattle.gd_zone.specs.Extremes.{ends_by}
-use Rattle.gd_bound.proofs.threshold.first_low.Given as goal
+use Rattle.gd_bound.proofs.threshold.first_far.Given as goal
 
 abbrev pub invariant-loop-at : goal.invariant-loop-at
 invariant-loop-at l = record {
