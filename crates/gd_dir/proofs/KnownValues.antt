@@ -5,6 +5,7 @@ use Rattle.gd_dir.specs.Boxes.{ORIGIN, box_of}
 use Rattle.gd_dir.specs.Covers.{face_cell}
 use Rattle.gd_dir.specs.FormBoxes.{form_box, form_cell}
 use Rattle.gd_dir.specs.Forms.{cells_of, leading_axis}
+use Rattle.gd_vec.specs.declared.vector.V3.{V3}
 use Rattle.gd_dir.specs.declared.shape.FormShape.TheVariants.{Line, Circle}
 
 -- a whole face goes from -1 to 1 in both ratios
@@ -52,10 +53,13 @@ unfolding cell_of
 known_line = refl
 
 -- path 01 of level 2: the second offset of a circle was halved to its upper half. Its direction leads along z
-known_circle : form_box Circle (record { x = pos 3; y = pos 0; z = neg_ℤ (pos 4) }) 4 (form_cell Circle 4 1 2 1) ≡ record {
+abbrev leaning : V3
+leaning = record { x = pos 3; y = pos 0; z = neg_ℤ (pos 4) }
+
+known_circle : form_box Circle leaning 4 (form_cell Circle 4 1 2 1) ≡ record {
   lead = 3;
-  lo = record { x = pos 3; y = pos 0; z = neg_ℤ (pos 4) };
-  hi = record { x = pos 3; y = pos 0; z = neg_ℤ (pos 4) };
+  lo = leaning;
+  hi = leaning;
   offset_lo = record { x = neg_ℤ (pos (2 ^ 20)); y = pos 0; z = pos 0 };
   offset_hi = record { x = pos 0; y = pos (2 ^ 20); z = pos 0 };
 }

@@ -1,4 +1,5 @@
--- Boxes of directions, in 2^-30, and of offsets, in fine units of 2^-16: the corners with the least entries and those with the greatest.
+-- Boxes of directions, in 2^-30, and of offsets, in fine units of 2^-16: the corners with the least entries and those
+-- with the greatest.
 use Rattle.std.specs.Prelude.{ℕ, ℤ, pos, ◌^◌, ◌≡◌, ◌≤ℤ◌, ◌+ℤ◌, ◌*ℤ◌, ◌==◌, if◌then◌else◌}
 use Rattle.gd_cells.specs.declared.cell.Cell.{Cell}
 use Rattle.gd_dir.specs.Directions.{LeadsAlong, LiesIn, RatioWithin, entry, first_other, second_other}
@@ -48,7 +49,8 @@ pub record HoldsDirection (b : DirBox) (lead : ℤ) (n : V3) : Type 0 where
   pub y : RatioWithin b.lo.y b.hi.y lead n.y
   pub z : RatioWithin b.lo.z b.hi.z lead n.z
 
--- o over s units, in fine units, is no less than lo and no greater than hi, where s is positive: stated by products, so that nothing is rounded
+-- o over s units, in fine units, is no less than lo and no greater than hi, where s is positive: stated by products, so
+-- that nothing is rounded
 abbrev pub OffsetWithin : ℤ → ℤ → ℤ → ℤ → Type 0
 OffsetWithin lo hi s o = ((lo *ℤ s) ≤ℤ (pos (2 ^ 16) *ℤ o)) × ((pos (2 ^ 16) *ℤ o) ≤ℤ (hi *ℤ s))
 

@@ -23,7 +23,8 @@ FacesCover = (axis : ℕ) (n : V3) → 1 ≤ axis → axis ≤ 3 → LeadsAlong 
 -- a direction that lies in a cell lies in one of its halves
 abbrev pub HalvesCover : Type 0
 HalvesCover = (root level path axis : ℕ) (n : V3) → level < 60 → LiesIn (face_cell root level path) axis n
-    → (LiesIn (face_cell root (suc level) (2 * path)) axis n) ⊎ (LiesIn (face_cell root (suc level) (2 * path + 1)) axis n)
+    → (LiesIn (face_cell root (suc level) (2 * path)) axis n)
+    ⊎ (LiesIn (face_cell root (suc level) (2 * path + 1)) axis n)
 
 -- a box lies in another
 pub record IsPart (a b : DirBox) : Type 0 where
@@ -34,4 +35,5 @@ pub record IsPart (a b : DirBox) : Type 0 where
 
 -- the boxes of both halves of a cell lie in the cell's box
 abbrev pub BoxesNest : Type 0
-BoxesNest = (root level path side : ℕ) → 1 ≤ root → root ≤ 3 → level < 60 → side < 2 → IsPart (box_of (face_cell root (suc level) (2 * path + side))) (box_of (face_cell root level path))
+BoxesNest = (root level path side : ℕ) → 1 ≤ root → root ≤ 3 → level < 60 → side < 2
+    → IsPart (box_of (face_cell root (suc level) (2 * path + side))) (box_of (face_cell root level path))

@@ -22,11 +22,13 @@ first_other axis = if axis == 1 then 2 else 1
 abbrev pub second_other : ℕ → ℕ
 second_other axis = if axis == 3 then 2 else 3
 
--- the ratio x / lead, in 2^-30, is no less than lo and no greater than hi, where lead is positive: stated by products, so that nothing is rounded
+-- the ratio x / lead, in 2^-30, is no less than lo and no greater than hi, where lead is positive: stated by products,
+-- so that nothing is rounded
 abbrev pub RatioWithin : ℤ → ℤ → ℤ → ℤ → Type 0
 RatioWithin lo hi lead x = ((lo *ℤ lead) ≤ℤ (pos (2 ^ 30) *ℤ x)) × ((pos (2 ^ 30) *ℤ x) ≤ℤ (hi *ℤ lead))
 
--- a direction that leads along an axis lies in a cell: the axis is the cell's root, and the ratios of the other entries to the leading one lie in the cell's boxes
+-- a direction that leads along an axis lies in a cell: the axis is the cell's root, and the ratios of the other entries
+-- to the leading one lie in the cell's boxes
 pub record LiesIn (c : Cell) (axis : ℕ) (n : V3) : Type 0 where
   pub root : c.root ≡ axis
   pub first : RatioWithin (low_end 0 c) (high_end 0 c) (entry axis n) (entry (first_other axis) n)

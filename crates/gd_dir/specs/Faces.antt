@@ -1,4 +1,5 @@
--- The cells of three faces of a cube: on each face a grid of two ratios from -1 to 1, in 2^-30, that are halved in turn.
+-- The cells of three faces of a cube: on each face a grid of two ratios from -1 to 1, in 2^-30, that are halved in
+-- turn.
 use Rattle.std.specs.Prelude.{ℕ, ◌*◌, ◌/◌, ◌%◌, ◌^◌, ◌≤◌, ◌<◌, ℤ, pos, neg_ℤ, ◌+ℤ◌, get_or}
 use Rattle.gd_cells.specs.Grid.{halvings, Grid}
 use Rattle.gd_cells.specs.declared.cell.Cell.{Cell}

@@ -15,8 +15,8 @@ pub enum FormShape {
 }
 
 /// A box of directions and offsets. Each entry of a direction, in 2^-30, lies between those of `lo` and `hi`, and each
-/// entry of an offset, in fine units of 2^-16, between those of `offset_lo` and `offset_hi`. `lead` is the axis, 1 to 3,
-/// along which the direction leads: there all offsets are 0. A flatness has no offset, so both its corners are 0.
+/// entry of an offset, in fine units of 2^-16, between those of `offset_lo` and `offset_hi`. `lead` is the axis, 1 to
+/// 3, along which the direction leads: there all offsets are 0. A flatness has no offset, so both its corners are 0.
 #[derive(Clone, Copy, Debug, PartialEq, Eq)]
 pub struct DirBox {
     pub lead: u32,
