@@ -1,4 +1,5 @@
 pub mod AxisSizes
+mod AxisValues
 pub mod Blocks
 pub mod Decisions
 mod KnownValues

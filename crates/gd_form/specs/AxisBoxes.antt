@@ -1,5 +1,5 @@
 -- The boxes over which the values of points about an axis are taken.
-use Rattle.std.specs.Prelude.{ℤ, pos, ◌≡◌, ◌*◌, ◌^◌, ◌≤ℤ◌}
+use Rattle.std.specs.Prelude.{ℕ, ℤ, pos, ◌≡◌, ◌<◌, ◌≤◌, ◌-◌, ◌*◌, ◌^◌, ◌≤ℤ◌}
 use Rattle.gd_dir.specs.Boxes.{IsBox}
 use Rattle.gd_dir.specs.declared.shape.DirBox.{DirBox}
 use Rattle.gd_dir.specs.declared.shape.FormShape.{FormShape}
@@ -19,3 +19,8 @@ IsDistance2 z = (pos 0 ≤ℤ z) × (z ≤ℤ pos (3 * 2 ^ 112))
 -- its root
 abbrev pub IsDistance : ℤ → Type 0
 IsDistance z = (pos 0 ≤ℤ z) × (z ≤ℤ pos (2 ^ 57))
+
+-- the least number of bits with 2^bits at least n
+pub record IsLeastPower (n bits : ℕ) : Type 0 where
+  pub above : n ≤ 2 ^ bits
+  pub least : 0 < bits → 2 ^ (bits - 1) < n

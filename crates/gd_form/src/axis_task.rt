@@ -37,13 +37,17 @@ pub struct AxisTask<'a> {
 }
 
 impl<'a> Task for AxisTask<'a> {
-    ghost questions = { λ s. axis_questions (asked_of s.shape s.direction s.own s.shift s.tolerance s.judged.points.table.now.rows s.judged.numbers.now) };
+    ghost questions = { λ s. axis_questions (asked_of s.shape s.direction s.own s.shift s.tolerance
+        s.judged.points.table.now.rows s.judged.numbers.now) };
 
-    ghost feasible = { λ s a. MeetsForm (asked_of s.shape s.direction s.own s.shift s.tolerance s.judged.points.table.now.rows s.judged.numbers.now) a };
+    ghost feasible = { λ s a. MeetsForm (asked_of s.shape s.direction s.own s.shift s.tolerance
+        s.judged.points.table.now.rows s.judged.numbers.now) a };
 
-    ghost inside = { λ s a c. AxisLiesIn (asked_of s.shape s.direction s.own s.shift s.tolerance s.judged.points.table.now.rows s.judged.numbers.now) a c };
+    ghost inside = { λ s a c. AxisLiesIn (asked_of s.shape s.direction s.own s.shift s.tolerance
+        s.judged.points.table.now.rows s.judged.numbers.now) a c };
 
-    ghost assignment = { λ s w. axis_at (asked_of s.shape s.direction s.own s.shift s.tolerance s.judged.points.table.now.rows s.judged.numbers.now) w };
+    ghost assignment = { λ s w. axis_at (asked_of s.shape s.direction s.own s.shift s.tolerance
+        s.judged.points.table.now.rows s.judged.numbers.now) w };
 
     fn roots(&self) -> u32 {
         roots_of(self.shape)

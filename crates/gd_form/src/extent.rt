@@ -31,8 +31,10 @@ pub struct Extent {
 #[inline(always)]
 pub fn value_at(over: &AxisBox<'_>, judged: &Judged<'_>, at: usize) -> Iv
     requires at { at < length judged.now.numbers.now }
-    ensures lo { result.lo ≡ get_or (lower_ends over.now.shape over.now.b.now over.now.own judged.now.points.table.now.rows judged.now.numbers.now) at (pos 0) }
-    ensures hi { result.hi ≡ get_or (upper_ends over.now.shape over.now.b.now over.now.own judged.now.points.table.now.rows judged.now.numbers.now) at (pos 0) }
+    ensures lo { result.lo ≡ get_or (lower_ends over.now.shape over.now.b.now over.now.own
+        judged.now.points.table.now.rows judged.now.numbers.now) at (pos 0) }
+    ensures hi { result.hi ≡ get_or (upper_ends over.now.shape over.now.b.now over.now.own
+        judged.now.points.table.now.rows judged.now.numbers.now) at (pos 0) }
     ensures lo_fits { IsDistance2 result.lo }
     ensures hi_fits { IsDistance2 result.hi }
 {
@@ -78,10 +80,14 @@ fn with(so_far: Extent, v: Iv) -> Extent
 
 /// The extremes of all judged points.
 pub fn extent_of(over: &AxisBox<'_>, judged: &Judged<'_>) -> Extent
-    ensures most_lo { result.most_lo ≡ greatest (lower_ends over.now.shape over.now.b.now over.now.own judged.now.points.table.now.rows judged.now.numbers.now) }
-    ensures least_lo { result.least_lo ≡ least (lower_ends over.now.shape over.now.b.now over.now.own judged.now.points.table.now.rows judged.now.numbers.now) }
-    ensures most_hi { result.most_hi ≡ greatest (upper_ends over.now.shape over.now.b.now over.now.own judged.now.points.table.now.rows judged.now.numbers.now) }
-    ensures least_hi { result.least_hi ≡ least (upper_ends over.now.shape over.now.b.now over.now.own judged.now.points.table.now.rows judged.now.numbers.now) }
+    ensures most_lo { result.most_lo ≡ greatest (lower_ends over.now.shape over.now.b.now over.now.own
+        judged.now.points.table.now.rows judged.now.numbers.now) }
+    ensures least_lo { result.least_lo ≡ least (lower_ends over.now.shape over.now.b.now over.now.own
+        judged.now.points.table.now.rows judged.now.numbers.now) }
+    ensures most_hi { result.most_hi ≡ greatest (upper_ends over.now.shape over.now.b.now over.now.own
+        judged.now.points.table.now.rows judged.now.numbers.now) }
+    ensures least_hi { result.least_hi ≡ least (upper_ends over.now.shape over.now.b.now over.now.own
+        judged.now.points.table.now.rows judged.now.numbers.now) }
 {
     let mut extent = of_one(value_at(over, judged, 0));
     for at in 1..judged.numbers.len() {
@@ -147,9 +153,11 @@ fn stays_within(square: i128, distance: i128) -> bool
 
 // The place of the first judged point whose least distance is the greatest.
 pub fn first_far(over: &AxisBox<'_>, judged: &Judged<'_>, distance: i128) -> usize
-    requires distance { distance ≡ greatest (near_ends over.now.shape over.now.b.now over.now.own judged.now.points.table.now.rows judged.now.numbers.now) }
+    requires distance { distance ≡ greatest (near_ends over.now.shape over.now.b.now over.now.own
+        judged.now.points.table.now.rows judged.now.numbers.now) }
     requires size { IsDistance distance }
-    ensures place { result ≡ place_of distance (near_ends over.now.shape over.now.b.now over.now.own judged.now.points.table.now.rows judged.now.numbers.now) }
+    ensures place { result ≡ place_of distance (near_ends over.now.shape over.now.b.now over.now.own
+        judged.now.points.table.now.rows judged.now.numbers.now) }
     ensures inside { result < length judged.now.numbers.now }
 {
     for at in 0..judged.numbers.len() {
@@ -162,9 +170,11 @@ pub fn first_far(over: &AxisBox<'_>, judged: &Judged<'_>, distance: i128) -> usi
 
 // The place of the first judged point whose greatest distance is the least.
 pub fn first_near(over: &AxisBox<'_>, judged: &Judged<'_>, distance: i128) -> usize
-    requires distance { distance ≡ least (far_ends over.now.shape over.now.b.now over.now.own judged.now.points.table.now.rows judged.now.numbers.now) }
+    requires distance { distance ≡ least (far_ends over.now.shape over.now.b.now over.now.own
+        judged.now.points.table.now.rows judged.now.numbers.now) }
     requires size { IsDistance distance }
-    ensures place { result ≡ place_of distance (far_ends over.now.shape over.now.b.now over.now.own judged.now.points.table.now.rows judged.now.numbers.now) }
+    ensures place { result ≡ place_of distance (far_ends over.now.shape over.now.b.now over.now.own
+        judged.now.points.table.now.rows judged.now.numbers.now) }
     ensures inside { result < length judged.now.numbers.now }
 {
     for at in 0..judged.numbers.len() {

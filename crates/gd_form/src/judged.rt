@@ -1,5 +1,5 @@
 // The points that a form about an axis judges.
-ghost use Rattle.std.specs.Prelude.{◌≡◌, ◌<◌, ◌≤◌, ◌^◌, ◌-◌, get_or, length, true, IfSome};
+ghost use Rattle.std.specs.Prelude.{◌≡◌, ◌<◌, ◌≤◌, ◌^◌, ◌-◌, get_or, length, true, IfSome, None, []};
 ghost use Rattle.std.specs.List.{All};
 ghost use Rattle.gd_form.specs.AxisTests.{is_judged, numbers_of};
 ghost use Rattle.gd_form.specs.FlatTests.{point_at};
@@ -21,7 +21,9 @@ pub struct Judged<'a> {
 impl<'a> Judged<'a> {
     /// The points of a feature, or of a group of it, found without a look at the whole table. `None` where there is none.
     pub fn of(index: &'a PointIndex<'a>, feature: u32, group: Option<u32>) -> Option<Judged<'a>>
-        ensures numbers { IfSome result (λ judged. judged.numbers.now ≡ numbers_of feature group index.now.table.now.rows) }
+        ensures numbers { IfSome result (λ judged. judged.numbers.now ≡ numbers_of feature group
+            index.now.table.now.rows) }
+        ensures none { result ≡ None → numbers_of feature group index.now.table.now.rows ≡ [] }
         ensures table { IfSome result (λ judged. judged.points.table.now.rows ≡ index.now.table.now.rows) }
     {
         let numbers = match group {

@@ -8,6 +8,7 @@ mod extent;
 mod extremes;
 mod face;
 mod flat;
+mod form_def;
 mod forms;
 mod judged;
 mod laws;
@@ -18,10 +19,13 @@ mod products;
 mod ring;
 mod spread;
 mod task;
+#[cfg(test)]
+mod tests;
 mod wide;
 
 pub use axis_box::AxisBox;
 pub use axis_task::AxisTask;
+pub use form_def::{FormDef, form_task};
 pub use judged::Judged;
 pub use laws::{axis_tests_are_sound, zones_are_meant};
 pub use line::{is_line, is_line_refuted_at, line_evidence_in};

@@ -50,7 +50,8 @@ fn evidence_at(at: usize) -> Evidence
 /// The first evidence that refutes a box: the first point that lies outside at each axis.
 pub fn line_evidence_in(over: &AxisBox<'_>, judged: &Judged<'_>, tolerance: u32) -> Option<Evidence>
     requires tolerance { tolerance ≤ TOLERANCE }
-    ensures { result ≡ line_evidence over.now.shape judged.now.points.table.now.rows judged.now.numbers.now tolerance over.now.b.now over.now.own }
+    ensures { result ≡ line_evidence over.now.shape judged.now.points.table.now.rows judged.now.numbers.now
+        tolerance over.now.b.now over.now.own }
 {
     let most = square_times(tolerance, length2(over.shape, over.b).hi);
     for at in 0..judged.numbers.len() {
@@ -65,7 +66,8 @@ pub fn line_evidence_in(over: &AxisBox<'_>, judged: &Judged<'_>, tolerance: u32)
 fn place_is_outside(over: &AxisBox<'_>, judged: &Judged<'_>, tolerance: u32, at: usize) -> bool
     requires tolerance { tolerance ≤ TOLERANCE }
     requires at { at < length judged.now.points.table.now.rows }
-    ensures { result ≡ int_lt (square_times tolerance (length2_of over.now.shape over.now.b.now).hi) (pos 4 *ℤ (value_at over.now.shape over.now.b.now over.now.own judged.now.points.table.now.rows at).lo) }
+    ensures { result ≡ int_lt (square_times tolerance (length2_of over.now.shape over.now.b.now).hi) (pos 4 *ℤ
+        (value_at over.now.shape over.now.b.now over.now.own judged.now.points.table.now.rows at).lo) }
 {
     let most = square_times(tolerance, length2(over.shape, over.b).hi);
     is_more(
@@ -82,7 +84,8 @@ pub fn is_line_refuted_at(
     evidence: &Evidence,
 ) -> bool
     requires tolerance { tolerance ≤ TOLERANCE }
-    ensures { result ≡ line_refuted over.now.shape judged.now.points.table.now.rows judged.now.numbers.now tolerance over.now.b.now over.now.own evidence.now }
+    ensures { result ≡ line_refuted over.now.shape judged.now.points.table.now.rows judged.now.numbers.now
+        tolerance over.now.b.now over.now.own evidence.now }
 {
     evidence.condition == FORM
         && is_judged(judged, evidence.a)
@@ -93,7 +96,8 @@ pub fn is_line_refuted_at(
 /// Whether twice the distance of each point is at most the tolerance, at each axis of the box.
 pub fn is_line(over: &AxisBox<'_>, judged: &Judged<'_>, tolerance: u32) -> bool
     requires tolerance { tolerance ≤ TOLERANCE }
-    ensures { result ≡ line_holds over.now.shape judged.now.points.table.now.rows judged.now.numbers.now tolerance over.now.b.now over.now.own }
+    ensures { result ≡ line_holds over.now.shape judged.now.points.table.now.rows judged.now.numbers.now
+        tolerance over.now.b.now over.now.own }
 {
     let most = square_times(tolerance, length2(over.shape, over.b).lo);
     for at in 0..judged.numbers.len() {

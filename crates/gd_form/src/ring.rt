@@ -34,7 +34,8 @@ fn compared(from: i128, to: i128, tolerance: u32, length2: i128) -> Ordering
 /// The first evidence that refutes a box: the farthest point and the nearest.
 pub fn ring_evidence_in(over: &AxisBox<'_>, judged: &Judged<'_>, tolerance: u32) -> Option<Evidence>
     requires tolerance { tolerance ≤ TOLERANCE }
-    ensures { result ≡ ring_evidence over.now.shape judged.now.points.table.now.rows judged.now.numbers.now tolerance over.now.b.now over.now.own }
+    ensures { result ≡ ring_evidence over.now.shape judged.now.points.table.now.rows judged.now.numbers.now
+        tolerance over.now.b.now over.now.own }
 {
     let extent = extent_of(over, judged);
     let far = root_down(extent.most_lo);
@@ -48,11 +49,15 @@ pub fn ring_evidence_in(over: &AxisBox<'_>, judged: &Judged<'_>, tolerance: u32)
 
 // The evidence of the first points that have these distances.
 fn evidence_at(over: &AxisBox<'_>, judged: &Judged<'_>, far: i128, near: i128) -> Evidence
-    requires far { far ≡ greatest (near_ends over.now.shape over.now.b.now over.now.own judged.now.points.table.now.rows judged.now.numbers.now) }
-    requires near { near ≡ least (far_ends over.now.shape over.now.b.now over.now.own judged.now.points.table.now.rows judged.now.numbers.now) }
+    requires far { far ≡ greatest (near_ends over.now.shape over.now.b.now over.now.own
+        judged.now.points.table.now.rows judged.now.numbers.now) }
+    requires near { near ≡ least (far_ends over.now.shape over.now.b.now over.now.own
+        judged.now.points.table.now.rows judged.now.numbers.now) }
     requires far_size { IsDistance far }
     requires near_size { IsDistance near }
-    ensures { result ≡ evidence_of (farthest_point over.now.shape judged.now.points.table.now.rows judged.now.numbers.now over.now.b.now over.now.own) (nearest_point over.now.shape judged.now.points.table.now.rows judged.now.numbers.now over.now.b.now over.now.own) }
+    ensures { result ≡ evidence_of (farthest_point over.now.shape judged.now.points.table.now.rows
+        judged.now.numbers.now over.now.b.now over.now.own) (nearest_point over.now.shape
+        judged.now.points.table.now.rows judged.now.numbers.now over.now.b.now over.now.own) }
 {
     let far = number_at(judged, first_far(over, judged, far));
     let near = number_at(judged, first_near(over, judged, near));
@@ -74,7 +79,8 @@ fn places_part(
     requires tolerance { tolerance ≤ TOLERANCE }
     requires far { far < length judged.now.points.table.now.rows }
     requires near { near < length judged.now.points.table.now.rows }
-    ensures { result ≡ ring_parts over.now.shape judged.now.points.table.now.rows tolerance over.now.b.now over.now.own far near }
+    ensures { result ≡ ring_parts over.now.shape judged.now.points.table.now.rows tolerance over.now.b.now
+        over.now.own far near }
 {
     let least = root_down(
         value(
@@ -105,7 +111,8 @@ pub fn is_ring_refuted_at(
     evidence: &Evidence,
 ) -> bool
     requires tolerance { tolerance ≤ TOLERANCE }
-    ensures { result ≡ ring_refuted over.now.shape judged.now.points.table.now.rows judged.now.numbers.now tolerance over.now.b.now over.now.own evidence.now }
+    ensures { result ≡ ring_refuted over.now.shape judged.now.points.table.now.rows judged.now.numbers.now
+        tolerance over.now.b.now over.now.own evidence.now }
 {
     evidence.condition == FORM
         && is_judged(judged, evidence.a)
@@ -122,7 +129,8 @@ pub fn is_ring_refuted_at(
 /// Whether the greatest distance less the least is at most the tolerance, at each axis of the box.
 pub fn is_ring(over: &AxisBox<'_>, judged: &Judged<'_>, tolerance: u32) -> bool
     requires tolerance { tolerance ≤ TOLERANCE }
-    ensures { result ≡ ring_holds over.now.shape judged.now.points.table.now.rows judged.now.numbers.now tolerance over.now.b.now over.now.own }
+    ensures { result ≡ ring_holds over.now.shape judged.now.points.table.now.rows judged.now.numbers.now
+        tolerance over.now.b.now over.now.own }
 {
     let extent = extent_of(over, judged);
     let far = root_up(extent.most_hi);
