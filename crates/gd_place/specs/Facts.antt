@@ -1,0 +1,26 @@
+-- What the calls ask of a file and a frame.
+use Rattle.std.specs.Prelude.{ℕ, ◌≡◌, ◌+◌, ◌≤◌, Bool, true, false, slice_get}
+use Rattle.std.specs.Option.{IfSome}
+use Rattle.gd_base.specs.Limits.{OFFSETS}
+use Rattle.gd_frames.specs.Counts.{frame_offsets}
+use Rattle.gd_frames.specs.Facts.{IsFile}
+use Rattle.gd_points.specs.Table.{Table}
+use Rattle.gd_tables.specs.Kinds.{File, Frame}
+use Rattle.gd_tables.specs.declared.kind.Kind.{Kind}
+use Rattle.gd_tables.specs.declared.kind.Kind.TheVariants as kind
+
+-- a file that was read beside some table of points
+abbrev pub WasRead : File → Type 0
+WasRead file = (points : Table) × IsFile points file
+
+-- the kinds of this table
+abbrev pub is_placed : Kind → Bool
+is_placed kind.Position = true
+is_placed kind.Orientation = true
+is_placed _ = false
+
+-- a frame by its place is of one of these kinds, and from the first offset on those of its features are at most 2
+pub record IsPlaced (file : File) (number offset : ℕ) : Type 0 where
+  pub kind : IfSome (slice_get file.frames number) (λ (f : Frame). is_placed f.kind ≡ true)
+  pub few : offset ≤ OFFSETS
+  pub offsets : IfSome (slice_get file.frames number) (λ (f : Frame). offset + frame_offsets file.features f ≤ OFFSETS)
