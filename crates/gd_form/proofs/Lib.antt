@@ -1,3 +1,4 @@
+pub mod Among
 pub mod AxisSizes
 mod AxisValues
 pub mod Blocks

@@ -1,6 +1,7 @@
 // The points that a form about an axis judges.
-ghost use Rattle.std.specs.Prelude.{◌≡◌, ◌<◌, ◌≤◌, ◌^◌, ◌-◌, get_or, length, true, IfSome, None, []};
-ghost use Rattle.std.specs.List.{All};
+ghost use Rattle.std.specs.Prelude.{◌≡◌, ◌<◌, ◌≤◌, ◌^◌, ◌-◌, get_or, length, nat_eq, true, false, IfSome, None, []};
+ghost use Rattle.std.specs.List.{All, list_any};
+ghost use Rattle.std.specs.List.Sorted.{IsNonDecreasingBy};
 ghost use Rattle.gd_form.specs.AxisTests.{is_judged, numbers_of};
 ghost use Rattle.gd_form.specs.FlatTests.{point_at};
 ghost use Rattle.gd_vec.specs.Vector.{IsWithin};
@@ -9,13 +10,14 @@ use crate::points::{Points, place_at};
 use gd_points::PointIndex;
 use gd_vec::V3;
 
-/// The points of a table that a form judges, at least one, by their places in it, from 0.
+/// The points of a table that a form judges, at least one, by their places in it, from 0, which ascend.
 #[derive(Clone, Copy)]
 pub struct Judged<'a> {
     pub points: Points<'a>,
     pub numbers: &'a [u32],
     ghost named: { 0 < length numbers.now },
     ghost below: { All (λ number. number < length points.table.now.rows) numbers.now },
+    ghost ascending: { IsNonDecreasingBy (λ number. number) numbers.now },
 }
 
 impl<'a> Judged<'a> {
@@ -26,10 +28,7 @@ impl<'a> Judged<'a> {
         ensures none { result ≡ None → numbers_of feature group index.now.table.now.rows ≡ [] }
         ensures table { IfSome result (λ judged. judged.points.table.now.rows ≡ index.now.table.now.rows) }
     {
-        let numbers = match group {
-            None => index.rows_of(feature),
-            Some(group) => index.rows_of_group(feature, group),
-        };
+        let numbers = numbers_of(index, feature, group);
         if numbers.is_empty() {
             return None;
         }
@@ -41,6 +40,18 @@ impl<'a> Judged<'a> {
             },
             numbers,
         })
+    }
+}
+
+// The places of the rows of a feature, or of a group of it.
+fn numbers_of<'a>(index: &'a PointIndex<'a>, feature: u32, group: Option<u32>) -> &'a [u32]
+    ensures all { result.now ≡ numbers_of feature group index.now.table.now.rows }
+    ensures below { All (λ number. number < length index.now.table.now.rows) result.now }
+    ensures ascending { IsNonDecreasingBy (λ number. number) result.now }
+{
+    match group {
+        None => index.rows_of(feature),
+        Some(group) => index.rows_of_group(feature, group),
     }
 }
 
@@ -74,5 +85,25 @@ pub fn is_judged(judged: &Judged<'_>, number: u32) -> bool
     ensures value { result ≡ is_judged judged.now.numbers.now number }
     ensures inside { result ≡ true → number - 1 < length judged.now.points.table.now.rows }
 {
-    1 <= number && judged.numbers.contains(&(number - 1))
+    1 <= number && is_among(judged.numbers, number - 1)
+}
+
+// Whether a number is one of some that ascend.
+fn is_among(numbers: &[u32], number: u32) -> bool
+    requires { IsNonDecreasingBy (λ n. n) numbers.now }
+    ensures { result ≡ list_any (λ n. nat_eq n number) numbers.now }
+{
+    let at = numbers.partition_point(|n| *n < number);
+    stands_at(numbers, at, number)
+}
+
+// Whether a number stands at a place.
+fn stands_at(numbers: &[u32], at: usize, number: u32) -> bool
+    ensures inside { at < length numbers.now → result ≡ nat_eq (get_or numbers.now at 0) number }
+    ensures past { length numbers.now ≤ at → result ≡ false }
+{
+    match numbers.get(at) {
+        None => false,
+        Some(n) => *n == number,
+    }
 }

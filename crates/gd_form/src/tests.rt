@@ -5,7 +5,7 @@ ghost use Rattle.gd_dir.specs.declared.shape.FormShape.TheVariants.{Flat};
 ghost use Rattle.gd_vec.specs.Vector.{IsWithin};
 
 use crate::{FormDef, Judged, form_task};
-use gd_cells::{Node, Task, root_cell};
+use gd_cells::{MOST_DIMS, Node, Task, Witness};
 use gd_dir::FormShape;
 use gd_points::{PointIndex, read_points};
 use gd_search::{Outcome, search};
@@ -122,8 +122,12 @@ fn ties(rt: HostRuntime) -> Result<(), Fail> {
         let index = PointIndex::of(rt.alloc(), &table)?;
         let judged = Judged::of(&index, 0, None).expect(&rt, "a point");
         let task = form_task(judged, &of(shape, tolerance));
-        let centre = task.centre(&root_cell(root));
-        assert_eq!(rt; task.holds(&centre), want, "{file:?} {tolerance}");
+        let centre = Witness {
+            root,
+            at: [0; MOST_DIMS],
+        };
+        let holds = task.in_range(&centre) && task.holds(&centre);
+        assert_eq!(rt; holds, want, "{file:?} {tolerance}");
     }
     Ok(())
 }
