@@ -60,7 +60,8 @@ pin_with_mark : row shape.Pin true [] (feature shape.Pin) datum ≡ of_all (Axis
 unfolding datum
 pin_with_mark = refl
 
--- a file of one pin and one datum, beside points of its feature in the groups 3, 0 and 1: the contact groups are 1 and 3
+-- a file of one pin and one datum, beside points of its feature in the groups 3, 0 and 1: the contact groups are 1 and
+-- 3
 point : ℕ → Row
 point group = record { feature = 7; group = group; at = origin }
 

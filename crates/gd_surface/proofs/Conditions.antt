@@ -1,4 +1,5 @@
--- Each condition of a profile or a runout frame is one that placements are judged by, and they are as many as are counted.
+-- Each condition of a profile or a runout frame is one that placements are judged by, and they are as many as are
+-- counted.
 use Rattle.std.proofs.Common.{◌≡◌, ◌∙◌, ap, refl, ℕ, ◌*◌, ◌≤◌, true, List, [], ◌∷◌, length, Option, Some, None, option_map, pos, arith}
 use Rattle.std.specs.Prelude.{ℤ, ◌+ℤ◌, ◌-ℤ◌, neg_ℤ, slice_get, unsigned_abs, ◌≤ℤ◌, Bool, option_and_then}
 use Rattle.std.specs.List.{All, sum_by}

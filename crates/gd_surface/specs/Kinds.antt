@@ -1,5 +1,5 @@
--- The table of profile and runout: what a frame at a tolerance t demands of each of its features, one definition a row. t,
--- u and radii are in units, and a number of a demand is in half units: half a tolerance, and a radius, count twice.
+-- The table of profile and runout: what a frame at a tolerance t demands of each of its features, one definition a row.
+-- t, u and radii are in units, and a number of a demand is in half units: half a tolerance, and a radius, count twice.
 use Rattle.std.specs.Prelude.{ℕ, ℤ, pos, neg_ℤ, ◌*◌, ◌+ℤ◌, ◌-ℤ◌, List, [], ◌∷◌, map, Option, Some, None, option_map}
 use Rattle.gd_datum.specs.Kinds.{on_all, on_group}
 use Rattle.gd_datum.specs.Listed.{listed_at}
@@ -32,11 +32,12 @@ below t (Some u) = pos (2 * t) -ℤ pos (2 * u)
 abbrev pub profile_plane : ℕ → Option ℕ → Demand
 profile_plane t u = Within (Some (neg_ℤ (below t u))) (Some (above t u))
 
--- 2. The profile of a cylinder or a sphere of radius r: no point's distance from the axis or the centre differs from r by
--- more than the zone reaches to its side.
+-- 2. The profile of a cylinder or a sphere of radius r: no point's distance from the axis or the centre differs from r
+-- by more than the zone reaches to its side.
 abbrev pub profile_round : Option ℕ → ℕ → Option ℕ → Demand
 profile_round radius t u =
-    Within (option_map (λ (r : ℕ). pos (2 * r) -ℤ below t u) radius) (option_map (λ (r : ℕ). pos (2 * r) +ℤ above t u) radius)
+    Within (option_map (λ (r : ℕ). pos (2 * r) -ℤ below t u) radius)
+    (option_map (λ (r : ℕ). pos (2 * r) +ℤ above t u) radius)
 
 -- 3. A runout: the distances of no two points differ by more than t.
 abbrev pub runout : ℕ → Demand
@@ -49,8 +50,8 @@ demand kind.Profile _ def t u = profile_round def.radius t u
 demand _ any def t u = runout t
 
 -- ---- conditions
--- the surface of a runout, by the feature of the datum: its axis, or for a plane that plane through its point which is at
--- right angles to the axis
+-- the surface of a runout, by the feature of the datum: its axis, or for a plane that plane through its point which is
+-- at right angles to the axis
 abbrev pub runout_surface : FeatureDef → Shape → Surface
 runout_surface datum shape.Plane = Plane datum.direction datum.point
 runout_surface datum _ = Axis datum.direction datum.point
@@ -61,11 +62,13 @@ profile def t u = on_all def (demand kind.Profile def.shape def t u) ∷ []
 
 -- 3. A circular runout: each circular element by itself, which is a group of the feature, 0 too, in ascending order.
 abbrev pub circular_runout : List Row → FeatureDef → FeatureDef → ℕ → List Condition
-circular_runout rows datum def t = map (on_group (runout_surface datum def.shape) (runout t) def.feature) (groups rows def.feature)
+circular_runout rows datum def t =
+    map (on_group (runout_surface datum def.shape) (runout t) def.feature) (groups rows def.feature)
 
 -- a demand on all points of a feature, on distances from a surface
 abbrev pub on_points : Surface → Demand → ℕ → Condition
-on_points surface demand feature = record { surface = surface; demand = demand; feature = feature; group = None; offset = 0 }
+on_points surface demand feature =
+    record { surface = surface; demand = demand; feature = feature; group = None; offset = 0 }
 
 -- 4. A total runout: all points of the feature together.
 abbrev pub total_runout : FeatureDef → FeatureDef → ℕ → List Condition

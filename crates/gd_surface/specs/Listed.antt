@@ -20,16 +20,21 @@ first_datum features datums (w ∷ more) = feature_of features datums w
 
 -- the conditions of features by their places
 abbrev pub of_places : List FeatureDef → List Row → Kind → Option FeatureDef → ℕ → Option ℕ → List ℕ → List Condition
-of_places features rows kind datum t u places = flat_map (λ place. listed_at (row rows kind datum t u) (slice_get features place)) places
+of_places features rows kind datum t u places =
+    flat_map (λ place. listed_at (row rows kind datum t u) (slice_get features place)) places
 
 abbrev pub of_features : List FeatureDef → List DatumDef → List Row → ℕ → Frame → List Condition
-of_features features datums rows t f = of_places features rows f.kind (first_datum features datums f.datums) t f.above f.features
+of_features features datums rows t f =
+    of_places features rows f.kind (first_datum features datums f.datums) t f.above f.features
 
 -- the conditions of a frame by its place in the file
 abbrev pub of_frame : File → List Row → ℕ → ℕ → List Condition
 of_frame file rows number t = listed_at (of_features file.features file.datums rows t) (slice_get file.frames number)
 
--- what a frame by its place demands of a feature by its place, at a tolerance
+-- what a frame demands of a feature by its place, at a tolerance
+abbrev pub demand_in : List FeatureDef → ℕ → ℕ → Frame → Option Demand
+demand_in features place t f = option_map (λ (def : FeatureDef). demand f.kind def.shape def t f.above) (slice_get features place)
+
+-- the same of a frame by its place
 abbrev pub demand_of : File → ℕ → ℕ → ℕ → Option Demand
-demand_of file number place t =
-    option_and_then (λ (f : Frame). option_map (λ (def : FeatureDef). demand f.kind def.shape def t f.above) (slice_get file.features place)) (slice_get file.frames number)
+demand_of file number place t = option_and_then (demand_in file.features place t) (slice_get file.frames number)

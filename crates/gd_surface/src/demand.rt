@@ -8,8 +8,8 @@ ghost use Rattle.gd_tables.specs.Kinds.{file_of};
 use gd_frames::{FeatureDef, FrameFile, Kind, Shape};
 use gd_zone::Demand;
 
-/// What a frame demands of one of its features at tolerance `t`, in units: the row of the table (docs/KINDS.md, "Profile"
-/// and "Runout"). The frame and the feature are named by their places in the file.
+/// What a frame demands of one of its features at tolerance `t`, in units: the row of the table (docs/KINDS.md,
+/// "Profile" and "Runout"). The frame and the feature are named by their places in the file.
 pub fn surface_demand(file: &FrameFile, frame: u32, feature: u32, t: u32) -> Demand
     requires frame { frame < length file.now.frames.items }
     requires feature { feature < length file.now.features.items }
@@ -19,7 +19,8 @@ pub fn surface_demand(file: &FrameFile, frame: u32, feature: u32, t: u32) -> Dem
     demand(frame.kind, &file.features[feature as usize], t, frame.above)
 }
 
-/// The row of the table for a kind and a feature, at tolerance `t`, of which `u` lies above where it is stated, in units.
+/// The row of the table for a kind and a feature, at tolerance `t`, of which `u` lies above where it is stated, in
+/// units.
 pub(crate) fn demand(kind: Kind, def: &FeatureDef, t: u32, u: Option<u32>) -> Demand
     ensures { result ≡ demand kind def.now.shape def.now t u }
 {

@@ -21,9 +21,9 @@ use gd_points::PointIndex;
 use gd_zone::Condition;
 use std::alloc::Global;
 
-/// Appends the conditions of a profile or a runout frame at tolerance `t`, in units: those of its features, in their order
-/// (docs/KINDS.md, "Profile" and "Runout"). The frame is named by its place in the file, which was read beside the table of
-/// the index. On `Memory` the list is as it was.
+/// Appends the conditions of a profile or a runout frame at tolerance `t`, in units: those of its features, in their
+/// order (docs/KINDS.md, "Profile" and "Runout"). The frame is named by its place in the file, which was read beside
+/// the table of the index. On `Memory` the list is as it was.
 pub fn surface_conditions(
     alloc: Global,
     file: &FrameFile,
@@ -35,10 +35,12 @@ pub fn surface_conditions(
     requires file { IsFile index.now.table.now (file_of file.now) }
     requires frame { IsOfSurface (file_of file.now) frame }
     requires t { t ≤ TOLERANCE }
-    ensures appended { OnOk result (into.new.items ≡ into.old.items ++ of_frame (file_of file.now) index.now.table.now.rows frame t) }
+    ensures appended { OnOk result (into.new.items ≡ into.old.items
+        ++ of_frame (file_of file.now) index.now.table.now.rows frame t) }
     ensures memory { OnErr result (into.new.items ≡ into.old.items) }
     ensures count { OnOk result (length (of_frame (file_of file.now) index.now.table.now.rows frame t)
-        ≡ count_at (frame_conditions file.now.features.items index.now.table.now.rows) (slice_get (file_of file.now).frames frame)) }
+        ≡ count_at (frame_conditions file.now.features.items index.now.table.now.rows)
+        (slice_get (file_of file.now).frames frame)) }
     ensures conditions { OnOk result (All IsCondition (of_frame (file_of file.now) index.now.table.now.rows frame t)) }
     ensures points { OnOk result (HasRows index.now.table.now.rows (length index.now.table.now.names)
         → All (HasPoints index.now.table.now.rows) (of_frame (file_of file.now) index.now.table.now.rows frame t)) }
@@ -72,7 +74,8 @@ fn of_features(
     frame: &FrameDef,
     t: u32,
 ) -> Result<Vec<Condition>, Memory>
-    ensures { IfOk result (λ v. v.items ≡ of_features file.now.features.items file.now.datums.items index.now.table.now.rows t (frame_of frame.now)) }
+    ensures { IfOk result (λ v. v.items
+        ≡ of_features file.now.features.items file.now.datums.items index.now.table.now.rows t (frame_of frame.now)) }
 {
     let features = file.features.as_slice();
     let asked = asked_of(file, frame, t);
@@ -114,7 +117,9 @@ fn append_place(
     place: u32,
     into: &mut Vec<Condition>,
 ) -> Result<(), Memory>
-    ensures { OnOk result (into.new.items ≡ into.old.items ++ listed_at (row index.now.table.now.rows asked.now.kind asked.now.datum asked.now.t asked.now.above) (slice_get features.now place)) }
+    ensures { OnOk result (into.new.items ≡ into.old.items
+        ++ listed_at (row index.now.table.now.rows asked.now.kind asked.now.datum asked.now.t asked.now.above)
+        (slice_get features.now place)) }
 {
     match features.get(place as usize) {
         Some(def) => append_row(alloc, index, asked, def, into),

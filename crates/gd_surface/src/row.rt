@@ -10,8 +10,8 @@ use gd_points::PointIndex;
 use gd_zone::{Condition, Demand, Surface};
 use std::alloc::Global;
 
-/// What a frame asks of each of its features: its kind, the feature of its first datum word, its tolerance in units, and
-/// how much of a profile's tolerance lies above, in units.
+/// What a frame asks of each of its features: its kind, the feature of its first datum word, its tolerance in units,
+/// and how much of a profile's tolerance lies above, in units.
 #[derive(Clone, Copy)]
 pub(crate) struct Asked {
     pub kind: Kind,
@@ -54,7 +54,8 @@ pub(crate) fn append_row(
     def: &FeatureDef,
     into: &mut Vec<Condition>,
 ) -> Result<(), Memory>
-    ensures { OnOk result (into.new.items ≡ into.old.items ++ row index.now.table.now.rows asked.now.kind asked.now.datum asked.now.t asked.now.above def.now) }
+    ensures { OnOk result (into.new.items ≡ into.old.items
+        ++ row index.now.table.now.rows asked.now.kind asked.now.datum asked.now.t asked.now.above def.now) }
 {
     let t = asked.t;
     match (asked.kind, asked.datum) {
@@ -87,7 +88,8 @@ fn append_circular(
     t: u32,
     into: &mut Vec<Condition>,
 ) -> Result<(), Memory>
-    ensures { OnOk result (into.new.items ≡ into.old.items ++ circular_runout index.now.table.now.rows datum.now def.now t) }
+    ensures { OnOk result (into.new.items ≡ into.old.items
+        ++ circular_runout index.now.table.now.rows datum.now def.now t) }
 {
     let groups = groups_of(alloc, index, 0, def.feature)?;
     let surface = runout_surface(datum, def.shape);
