@@ -1,4 +1,5 @@
--- Each condition that a datum word stands for is one that placements are judged by, and they are as many as are counted.
+-- Each condition that a datum word stands for is one that placements are judged by, and they are as many as are
+-- counted.
 use Rattle.std.proofs.Common.{◌≡◌, ◌∙◌, ap, refl, sym, subst, ℕ, ◌-◌, ◌*◌, ◌≤◌, Bool, true, false, List, [], ◌∷◌, length, map, Option, Some, None, option_map, pos, get_or, inl, inr, arith}
 use Rattle.std.specs.Prelude.{slice_get, ◌^◌, ◌≤ℤ◌}
 use Rattle.std.specs.List.{All, Any, filter, sum_by}

@@ -26,11 +26,13 @@ nominal_surface def = surface_of def.shape def.direction def.point
 
 -- a demand on the points of one group of a feature, on distances from a surface
 abbrev pub on_group : Surface → Demand → ℕ → ℕ → Condition
-on_group surface demand feature group = record { surface = surface; demand = demand; feature = feature; group = Some group; offset = 0 }
+on_group surface demand feature group =
+    record { surface = surface; demand = demand; feature = feature; group = Some group; offset = 0 }
 
 -- a demand on all points of a feature, on distances from its own surface
 abbrev pub on_all : FeatureDef → Demand → Condition
-on_all def demand = record { surface = nominal_surface def; demand = demand; feature = def.feature; group = None; offset = 0 }
+on_all def demand =
+    record { surface = nominal_surface def; demand = demand; feature = def.feature; group = None; offset = 0 }
 
 -- the same demand of each contact group by itself, in ascending order of the groups
 abbrev pub on_each : FeatureDef → Demand → List ℕ → List Condition

@@ -17,7 +17,8 @@ listed_at list (Some x) = list x
 -- the conditions of a datum: its feature's points tell the contact groups
 abbrev pub of_datum : List FeatureDef → List Row → Bool → DatumDef → List Condition
 of_datum features rows at_mmb d =
-    listed_at (λ (def : FeatureDef). row def.shape at_mmb (contact_groups rows def.feature) def d) (slice_get features d.feature)
+    listed_at (λ (def : FeatureDef). row def.shape at_mmb (contact_groups rows def.feature) def d)
+    (slice_get features d.feature)
 
 -- the conditions of a datum word, which names its datum by the place in the file
 abbrev pub of_word : List FeatureDef → List DatumDef → List Row → DatumRef → List Condition

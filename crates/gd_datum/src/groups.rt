@@ -24,7 +24,8 @@ fn push_group(
     group: u32,
     groups: &mut Vec<u32>,
 ) -> Result<(), Memory>
-    ensures { OnOk result (groups.new.items ≡ groups.old.items ++ cond (has_group index.now.table.now.rows feature group) (group ∷ []) []) }
+    ensures { OnOk result (groups.new.items ≡ groups.old.items
+        ++ cond (has_group index.now.table.now.rows feature group) (group ∷ []) []) }
 {
     if has_group(index, feature, group) {
         groups.push(group)?;

@@ -5,8 +5,8 @@ ghost use Rattle.gd_datum.specs.Kinds.{nominal_surface, surface_of};
 use gd_frames::{FeatureDef, Shape};
 use gd_zone::Surface;
 
-/// The nominal surface of a feature: its plane, its axis, or the centre of a sphere (ASME Y14.5.1M-1994, 1.4: true
-/// geometric counterparts are planes, axes and points). The point is in units; a direction has no unit.
+/// The nominal surface of a feature, by its shape: its plane, its axis, or the centre of a sphere. The point is in
+/// units; a direction has no unit.
 pub fn nominal_surface(def: &FeatureDef) -> Surface
     ensures { result ≡ nominal_surface def.now }
 {

@@ -33,13 +33,17 @@ pub fn datum_conditions(
     into: &mut Vec<Condition>,
 ) -> Result<(), Memory>
     requires file { IsFile index.now.table.now (file_of file.now) }
-    ensures appended { OnOk result (into.new.items ≡ into.old.items ++ of_words file.now.features.items file.now.datums.items index.now.table.now.rows words.now) }
+    ensures appended { OnOk result (into.new.items ≡ into.old.items
+        ++ of_words file.now.features.items file.now.datums.items index.now.table.now.rows words.now) }
     ensures memory { OnErr result (into.new.items ≡ into.old.items) }
-    ensures count { OnOk result (length (of_words file.now.features.items file.now.datums.items index.now.table.now.rows words.now)
+    ensures count { OnOk result
+        (length (of_words file.now.features.items file.now.datums.items index.now.table.now.rows words.now)
         ≡ words_conditions file.now.features.items file.now.datums.items index.now.table.now.rows words.now) }
-    ensures conditions { OnOk result (All IsCondition (of_words file.now.features.items file.now.datums.items index.now.table.now.rows words.now)) }
+    ensures conditions { OnOk result
+        (All IsCondition (of_words file.now.features.items file.now.datums.items index.now.table.now.rows words.now)) }
     ensures points { OnOk result (HasRows index.now.table.now.rows (length index.now.table.now.names)
-        → All (HasPoints index.now.table.now.rows) (of_words file.now.features.items file.now.datums.items index.now.table.now.rows words.now)) }
+        → All (HasPoints index.now.table.now.rows)
+        (of_words file.now.features.items file.now.datums.items index.now.table.now.rows words.now)) }
 {
     let conditions = of_words(alloc, file, index, words)?;
     into.extend_from_slice(conditions.as_slice())?;
@@ -53,7 +57,8 @@ fn of_words(
     index: &PointIndex<'_>,
     words: &[DatumRef],
 ) -> Result<Vec<Condition>, Memory>
-    ensures { IfOk result (λ v. v.items ≡ of_words file.now.features.items file.now.datums.items index.now.table.now.rows words.now) }
+    ensures { IfOk result (λ v. v.items
+        ≡ of_words file.now.features.items file.now.datums.items index.now.table.now.rows words.now) }
 {
     let mut conditions = Vec::new(alloc);
     for at in 0..words.len() {
@@ -69,7 +74,8 @@ fn append_word(
     word: &DatumRef,
     into: &mut Vec<Condition>,
 ) -> Result<(), Memory>
-    ensures { OnOk result (into.new.items ≡ into.old.items ++ of_word file.now.features.items file.now.datums.items index.now.table.now.rows word.now) }
+    ensures { OnOk result (into.new.items ≡ into.old.items
+        ++ of_word file.now.features.items file.now.datums.items index.now.table.now.rows word.now) }
 {
     match file.datums.get(word.datum as usize) {
         Some(datum) => append_datum(alloc, file, index, datum, word.at_mmb, into),
@@ -85,7 +91,8 @@ fn append_datum(
     at_mmb: bool,
     into: &mut Vec<Condition>,
 ) -> Result<(), Memory>
-    ensures { OnOk result (into.new.items ≡ into.old.items ++ of_datum file.now.features.items index.now.table.now.rows at_mmb datum.now) }
+    ensures { OnOk result (into.new.items ≡ into.old.items
+        ++ of_datum file.now.features.items index.now.table.now.rows at_mmb datum.now) }
 {
     match file.features.get(datum.feature as usize) {
         Some(def) => {
@@ -125,7 +132,8 @@ fn append_plane(
     contacts: &[u32],
     into: &mut Vec<Condition>,
 ) -> Result<(), Memory>
-    ensures { OnOk result (into.new.items ≡ into.old.items ++ on_all def.now (Within (Some (pos 0)) None) ∷ on_each def.now (Contact hi) contacts.now) }
+    ensures { OnOk result (into.new.items ≡ into.old.items
+        ++ on_all def.now (Within (Some (pos 0)) None) ∷ on_each def.now (Contact hi) contacts.now) }
 {
     append_all(def, at_least(Some(0)), into)?;
     append_contacts(def, Demand::Contact { hi }, contacts, into)

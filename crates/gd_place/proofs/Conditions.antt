@@ -1,4 +1,5 @@
--- Each condition of a position or an orientation frame is one that placements are judged by, and there is one a feature.
+-- Each condition of a position or an orientation frame is one that placements are judged by, and there is one a
+-- feature.
 use Rattle.std.proofs.Common.{◌≡◌, refl, sym, ℕ, ◌+◌, ◌*◌, ◌≤◌, true, List, [], ◌∷◌, length, Option, Some, None, pos, arith}
 use Rattle.std.specs.Prelude.{◌-ℤ◌, slice_get, ◌≤ℤ◌}
 use Rattle.std.specs.List.{All, sum_by}
@@ -184,4 +185,4 @@ module _ (file : File) (t offset : ℕ) where
   is-seen number points was used = frame-seen points.rows (length points.names) (slice_get file.frames number) used was.features
 
   pub is-long : (number : ℕ) → IsPlaced file number offset → (rows : List Row) → length (of_frame file number t offset) ≡ count_at (frame_conditions file.features rows) (slice_get file.frames number)
-  is-long number placed rows = frame-length rows (slice_get file.frames number) placed.kind
+  is-long number placed rows = frame-length rows (slice_get file.frames number) placed.of_kind

@@ -1,5 +1,5 @@
 -- What the calls ask of a file and a frame.
-use Rattle.std.specs.Prelude.{ℕ, ◌≡◌, ◌+◌, ◌≤◌, Bool, true, false, slice_get}
+use Rattle.std.specs.Prelude.{ℕ, ◌≡◌, ◌+◌, ◌<◌, ◌≤◌, Bool, true, false, slice_get}
 use Rattle.std.specs.Option.{IfSome}
 use Rattle.gd_base.specs.Limits.{OFFSETS}
 use Rattle.gd_frames.specs.Counts.{frame_offsets}
@@ -19,8 +19,10 @@ is_placed kind.Position = true
 is_placed kind.Orientation = true
 is_placed _ = false
 
--- a frame by its place is of one of these kinds, and from the first offset on those of its features are at most 2
+-- a frame by its place is of one of these kinds; from the first offset on those of its features are at most 2, and an
+-- orientation begins with 1 or 2: with 0 it would be located
 pub record IsPlaced (file : File) (number offset : ℕ) : Type 0 where
-  pub kind : IfSome (slice_get file.frames number) (λ (f : Frame). is_placed f.kind ≡ true)
+  pub of_kind : IfSome (slice_get file.frames number) (λ (f : Frame). is_placed f.kind ≡ true)
   pub few : offset ≤ OFFSETS
+  pub moved : IfSome (slice_get file.frames number) (λ (f : Frame). f.kind ≡ kind.Orientation → 0 < offset)
   pub offsets : IfSome (slice_get file.frames number) (λ (f : Frame). offset + frame_offsets file.features f ≤ OFFSETS)

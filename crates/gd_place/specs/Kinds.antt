@@ -1,5 +1,6 @@
--- The table of position and orientation: what a frame at a tolerance t demands of each of its features, one definition a
--- row. t and diameters are in units, and a number of a demand is in half units: the half of a diameter stands as it is.
+-- The table of position and orientation: what a frame at a tolerance t demands of each of its features, one definition
+-- a row. t and diameters are in units, and a number of a demand is in half units: the half of a diameter stands as it
+-- is.
 use Rattle.std.specs.Prelude.{ℕ, ℤ, pos, ◌*◌, ◌+ℤ◌, ◌-ℤ◌, Option, Some, None, option_map}
 use Rattle.gd_tables.specs.declared.file.FeatureDef.{FeatureDef}
 use Rattle.gd_tables.specs.declared.kind.Kind.{Kind}
@@ -44,8 +45,8 @@ pin_at_lmc def t = Within (less_tolerance t def.lmc) None
 abbrev pub oriented_plane : ℕ → Demand
 oriented_plane t = Spread (pos (2 * t))
 
--- the row of a material condition and a shape. Regardless of feature size a frame names planes and axes, and at a material
--- condition holes and pins, and no other shape
+-- the row of a material condition and a shape. Regardless of feature size a frame names planes and axes, and at a
+-- material condition holes and pins, and no other shape
 abbrev pub demand : Material → Shape → FeatureDef → ℕ → Demand
 demand material.Rfs shape.Plane def t = oriented_plane t
 demand material.Rfs _ def t = axis t
@@ -56,7 +57,8 @@ demand material.Lmc _ def t = pin_at_lmc def t
 
 -- the condition of a feature, which an offset of the placement moves
 abbrev pub on_feature : FeatureDef → Demand → ℕ → Condition
-on_feature def d offset = record { surface = nominal_surface def; demand = d; feature = def.feature; group = None; offset = offset }
+on_feature def d offset =
+    record { surface = nominal_surface def; demand = d; feature = def.feature; group = None; offset = offset }
 
 -- which offset moves a feature: an oriented plane, which isn't located anyhow, has none
 abbrev pub own_offset : Kind → Shape → ℕ → ℕ

@@ -10,8 +10,8 @@ use gd_datum::{at_least, at_most};
 use gd_frames::{FeatureDef, FrameFile, Material, Shape};
 use gd_zone::Demand;
 
-/// What a frame demands of one of its features at tolerance `t`, in units: the row of the table (docs/KINDS.md, "Position"
-/// and "Orientation"). The frame and the feature are named by their places in the file.
+/// What a frame demands of one of its features at tolerance `t`, in units: the row of the table (docs/KINDS.md,
+/// "Position" and "Orientation"). The frame and the feature are named by their places in the file.
 pub fn place_demand(file: &FrameFile, frame: u32, feature: u32, t: u32) -> Demand
     requires frame { frame < length file.now.frames.items }
     requires feature { feature < length file.now.features.items }

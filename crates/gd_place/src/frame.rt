@@ -1,6 +1,7 @@
 // The conditions of a position or an orientation frame.
 ghost use Rattle.std.specs.Prelude.{◌≡◌, ◌≤◌, ◌+◌, ◌++◌, ◌∷◌, [], length, pos, Some, OnOk, OnErr, IfOk, List, slice_get};
 ghost use Rattle.std.specs.List.{All};
+ghost use Rattle.std.specs.Option.{IfSome};
 ghost use Rattle.gd_base.specs.Limits.{OFFSETS, TOLERANCE};
 ghost use Rattle.gd_datum.specs.Facts.{HasPoints};
 ghost use Rattle.gd_datum.specs.Listed.{listed_at};
@@ -21,11 +22,11 @@ use gd_frames::{FeatureDef, FrameDef, FrameFile, Kind, Shape};
 use gd_zone::Condition;
 use std::alloc::Global;
 
-/// Appends the conditions of a position or an orientation frame at tolerance `t`, in units: one a feature, in their order
-/// (docs/KINDS.md, "Position" and "Orientation"). The frame is named by its place in the file. `offset` is that of all
-/// features of a position: 0 for the frame itself, 1 for its lower segment. In an orientation the first axis, hole or pin
-/// has the offset `offset`, each later one the next, and a plane has none; so `offset` is 1 or 2 there. On `Memory` the
-/// list is as it was.
+/// Appends the conditions of a position or an orientation frame at tolerance `t`, in units: one a feature, in their
+/// order (docs/KINDS.md, "Position" and "Orientation"). The frame is named by its place in the file. `offset` is that
+/// of all features of a position: 0 for the frame itself, 1 for its lower segment. In an orientation the first axis,
+/// hole or pin has the offset `offset`, each later one the next, and a plane has none; so `offset` is 1 or 2 there. On
+/// `Memory` the list is as it was.
 pub fn place_conditions(
     alloc: Global,
     file: &FrameFile,
@@ -42,7 +43,8 @@ pub fn place_conditions(
     ensures count { OnOk result ((rows : List Row) → length (of_frame (file_of file.now) frame t offset)
         ≡ count_at (frame_conditions file.now.features.items rows) (slice_get (file_of file.now).frames frame)) }
     ensures conditions { OnOk result (All IsCondition (of_frame (file_of file.now) frame t offset)) }
-    ensures points { OnOk result ((table : Table) → IsFile table (file_of file.now) → HasRows table.rows (length table.names)
+    ensures points { OnOk result ((table : Table) → IsFile table (file_of file.now)
+        → HasRows table.rows (length table.names)
         → All (HasPoints table.rows) (of_frame (file_of file.now) frame t offset)) }
 {
     let conditions = of_frame(alloc, file, frame, t, offset)?;
@@ -58,7 +60,8 @@ fn of_frame(
     t: u32,
     offset: u32,
 ) -> Result<Vec<Condition>, Memory>
-    requires { IsPlaced (file_of file.now) frame offset }
+    requires { IfSome (slice_get (file_of file.now).frames frame)
+        (λ f. offset + frame_offsets file.now.features.items f ≤ OFFSETS) }
     ensures { IfOk result (λ v. v.items ≡ of_frame (file_of file.now) frame t offset) }
 {
     match file.frames.get(frame as usize) {
@@ -96,7 +99,8 @@ fn append_place(
     place: u32,
     into: &mut Vec<Condition>,
 ) -> Result<(), Memory>
-    ensures { OnOk result (into.new.items ≡ into.old.items ++ listed_at (of_feature frame.now.kind frame.now.material t offset) (slice_get features.now place)) }
+    ensures { OnOk result (into.new.items ≡ into.old.items
+        ++ listed_at (of_feature frame.now.kind frame.now.material t offset) (slice_get features.now place)) }
 {
     match features.get(place as usize) {
         Some(def) => {
@@ -108,7 +112,8 @@ fn append_place(
 }
 
 fn on_feature(frame: &FrameDef, def: &FeatureDef, t: u32, offset: u32) -> Condition
-    ensures { result ≡ on_feature def.now (demand frame.now.material def.now.shape def.now t) (own_offset frame.now.kind def.now.shape offset) }
+    ensures { result ≡ on_feature def.now (demand frame.now.material def.now.shape def.now t)
+        (own_offset frame.now.kind def.now.shape offset) }
 {
     Condition {
         surface: nominal_surface(def),
