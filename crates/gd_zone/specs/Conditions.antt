@@ -22,7 +22,8 @@ cross d z = record { x = d.y *ℤ z.z -ℤ d.z *ℤ z.y; y = d.z *ℤ z.x -ℤ d
 abbrev pub from_surface : Placement → ℕ → V3 → V3 → V3
 from_surface p offset point v = difference (image_under p offset v) (times (pos (denominator_of p)) point)
 
--- for a plane the distance times the direction's length, over the denominator K; for an axis and a ball the squared distance times the direction's squared length, over K^2
+-- for a plane the distance times the direction's length, over the denominator K; for an axis and a ball the squared
+-- distance times the direction's squared length, over K^2
 abbrev pub exact_value : Surface → Placement → ℕ → V3 → ℤ
 exact_value (Plane direction point) p offset v = dot_of direction (from_surface p offset point v)
 exact_value (Axis direction point) p offset v = norm2_of (cross direction (from_surface p offset point v))

@@ -88,7 +88,8 @@ surface_holds (Plane direction point) demand vs all = plane_holds demand (norm2_
 surface_holds (Axis direction point) demand vs all = distance_holds demand (norm2_of direction) vs all
 surface_holds (Ball point) demand vs all = distance_holds demand (pos 1) vs all
 
--- the ends of what a demand looks at: for a spread along a direction translations, offsets and the surface's point are left out, as they cancel
+-- the ends of what a demand looks at: for a spread along a direction translations, offsets and the surface's point are
+-- left out, as they cancel
 abbrev pub demanded_ends : Surface → Demand → PlacedEnds → ℕ → V3 → Ends
 demanded_ends (Plane direction point) (Spread t) b offset v = along direction (turned_formula b.matrix v)
 demanded_ends (Plane direction point) demand b offset v = value_ends (Plane direction point) b offset v

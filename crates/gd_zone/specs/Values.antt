@@ -48,7 +48,8 @@ surface_value (Ball point) x = squares_of (from_point x point)
 abbrev pub value_ends : Surface → PlacedEnds → ℕ → V3 → Ends
 value_ends s b offset v = surface_value s (image_ends b offset v)
 
--- the interval holds the exact value: over K in fine units for a plane, and over K^2 in squares of fine units for an axis and a ball
+-- the interval holds the exact value: over K in fine units for a plane, and over K^2 in squares of fine units for an
+-- axis and a ball
 abbrev pub HoldsValue : Surface → Iv → Placement → ℕ → V3 → Type 0
 HoldsValue (Plane direction point) r p offset v = Inside r.lo r.hi (denominator_of p) (pos (2 ^ 16) *ℤ exact_value (Plane direction point) p offset v)
 HoldsValue (Axis direction point) r p offset v = Inside r.lo r.hi (denominator_of p * denominator_of p) (pos (2 ^ 32) *ℤ exact_value (Axis direction point) p offset v)
