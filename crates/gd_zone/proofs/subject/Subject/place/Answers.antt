@@ -1,7 +1,7 @@
 use Rattle.std.proofs.Common.{subst, sym}
 use Rattle.gd_base.specs.Limits.{COORDINATE}
 use Rattle.gd_vec.specs.Vector.{IsWithin}
-use Rattle.gd_zone.proofs.view.View.place.Goals as goal
+use Rattle.gd_zone.proofs.subject.Subject.place.Goals as goal
 
 pub returns-clause-x : goal.returns-clause-x
 returns-clause-x c = (subst (IsWithin COORDINATE) (sym c.read.ensures.value) c.read.ensures.size).x
