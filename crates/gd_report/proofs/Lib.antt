@@ -1,1 +1,3 @@
+mod JsonTexts
+mod KnownReports
 mod KnownTexts
