@@ -18,10 +18,11 @@ ghost use Rattle.gd_zone.specs.declared.condition.Demand.TheVariants.{Contact, H
 use crate::outside::is_outside;
 use gd_cells::Evidence;
 use gd_interval::Iv;
-use gd_points::{PointIndex, Row};
+use gd_points::Row;
 use gd_vec::V3;
 use gd_zone::{
-    Condition, Demand, Placed, Surface, View, at_narrowest, extremes_of, is_at_most, length2,
+    Condition, Demand, Placed, Subject, Surface, View, at_narrowest, extremes_of, is_at_most,
+    length2,
 };
 
 /// Whether one value passes another by more than `t` half units at every placement of the box, by the lower end of the
@@ -45,7 +46,7 @@ fn named_row(view: &View<'_>, number: u32) -> Option<Row>
     if number == 0 {
         None
     } else {
-        view.index.table().row(number as usize - 1)
+        view.subject.index.table().row(number as usize - 1)
     }
 }
 
@@ -61,31 +62,32 @@ fn is_of_group(condition: &Condition, row: &Row) -> bool
 
 // Whether a number from 1 names one of the condition's points.
 fn names_point(view: &View<'_>, number: u32) -> bool
-    ensures named { result ≡ names (belongs view.now.condition.now) (rows_in view.now) number }
+    ensures named { result ≡ names (belongs view.now.subject.now.condition) (rows_in view.now) number }
     ensures counts { result ≡ true → 1 ≤ number }
     ensures inside { result ≡ true → number - 1 < length (rows_in view.now) }
 {
     match named_row(view, number) {
         None => false,
-        Some(row) => row.feature == view.condition.feature && is_of_group(view.condition, &row),
+        Some(row) => row.feature == view.subject.condition.feature
+            && is_of_group(&view.subject.condition, &row),
     }
 }
 
 // Whether a number from 1 names a point of the condition's feature.
 fn names_feature(view: &View<'_>, number: u32) -> bool
-    ensures named { result ≡ names (is_of_feature view.now.condition.now) (rows_in view.now) number }
+    ensures named { result ≡ names (is_of_feature view.now.subject.now.condition) (rows_in view.now) number }
     ensures counts { result ≡ true → 1 ≤ number }
     ensures inside { result ≡ true → number - 1 < length (rows_in view.now) }
 {
     match named_row(view, number) {
         None => false,
-        Some(row) => row.feature == view.condition.feature,
+        Some(row) => row.feature == view.subject.condition.feature,
     }
 }
 
 // Whether a number names one of the condition's points, and the other names none.
 fn is_one_point(view: &View<'_>, number: u32, other: u32) -> bool
-    ensures named { result ≡ names (belongs view.now.condition.now) (rows_in view.now) number && (other == 0) }
+    ensures named { result ≡ names (belongs view.now.subject.now.condition) (rows_in view.now) number && (other == 0) }
     ensures counts { result ≡ true → 1 ≤ number }
     ensures inside { result ≡ true → number - 1 < length (rows_in view.now) }
 {
@@ -94,7 +96,8 @@ fn is_one_point(view: &View<'_>, number: u32, other: u32) -> bool
 
 // Whether a number names a point of the condition's feature, and the other names none.
 fn is_one_of_feature(view: &View<'_>, number: u32, other: u32) -> bool
-    ensures named { result ≡ names (is_of_feature view.now.condition.now) (rows_in view.now) number && (other == 0) }
+    ensures named { result ≡ names (is_of_feature view.now.subject.now.condition) (rows_in view.now) number
+        && (other == 0) }
     ensures counts { result ≡ true → 1 ≤ number }
     ensures inside { result ≡ true → number - 1 < length (rows_in view.now) }
 {
@@ -103,8 +106,8 @@ fn is_one_of_feature(view: &View<'_>, number: u32, other: u32) -> bool
 
 // Whether both numbers name points of the condition.
 fn are_points(view: &View<'_>, a: u32, b: u32) -> bool
-    ensures named { result ≡ names (belongs view.now.condition.now) (rows_in view.now) a
-        && names (belongs view.now.condition.now) (rows_in view.now) b }
+    ensures named { result ≡ names (belongs view.now.subject.now.condition) (rows_in view.now) a
+        && names (belongs view.now.subject.now.condition) (rows_in view.now) b }
     ensures a_counts { result ≡ true → 1 ≤ a }
     ensures a_inside { result ≡ true → a - 1 < length (rows_in view.now) }
     ensures b_counts { result ≡ true → 1 ≤ b }
@@ -122,29 +125,29 @@ fn are_none(a: u32, b: u32) -> bool
 
 // Whether a point lies outside two bounds.
 fn outside_at(view: &View<'_>, lo: Option<i64>, hi: Option<i64>, a: u32) -> bool
-    requires condition { IsCondition view.now.condition.now }
+    requires condition { IsCondition view.now.subject.now.condition }
     requires lo { IfSome lo IsBound }
     requires hi { IfSome hi IsBound }
     requires counts { 1 ≤ a }
     requires inside { a - 1 < length (rows_in view.now) }
-    ensures { result ≡ value_outside view.now.condition.now.surface lo hi (value_in view.now (a - 1)) }
+    ensures { result ≡ value_outside view.now.subject.now.condition.surface lo hi (value_in view.now (a - 1)) }
 {
-    is_outside(&view.condition.surface, lo, hi, view.value(a - 1))
+    is_outside(&view.subject.condition.surface, lo, hi, view.value(a - 1))
 }
 
 // Whether one point passes another by more than `t`.
 fn apart_at(view: &View<'_>, t: i64, a: u32, b: u32) -> bool
-    requires condition { IsCondition view.now.condition.now }
+    requires condition { IsCondition view.now.subject.now.condition }
     requires t { IsBound t }
     requires a_counts { 1 ≤ a }
     requires a_inside { a - 1 < length (rows_in view.now) }
     requires b_counts { 1 ≤ b }
     requires b_inside { b - 1 < length (rows_in view.now) }
-    ensures { result ≡ passes_by_more view.now.condition.now.surface t (value_in view.now (a - 1))
+    ensures { result ≡ passes_by_more view.now.subject.now.condition.surface t (value_in view.now (a - 1))
         (value_in view.now (b - 1)) }
 {
     passes_by_more(
-        &view.condition.surface,
+        &view.subject.condition.surface,
         view.value(a - 1),
         view.value(b - 1),
         t,
@@ -153,53 +156,53 @@ fn apart_at(view: &View<'_>, t: i64, a: u32, b: u32) -> bool
 
 /// Whether all points of the condition lie above a bound.
 pub fn all_above(view: &View<'_>, hi: i64) -> bool
-    requires condition { IsCondition view.now.condition.now }
+    requires condition { IsCondition view.now.subject.now.condition }
     requires hi { IsBound hi }
-    requires pair { IsPair view.now.condition.now.surface (Contact hi) }
-    ensures { result ≡ list_all (λ v. is_more v.lo hi (length2_of view.now.condition.now.surface))
+    requires pair { IsPair view.now.subject.now.condition.surface (Contact hi) }
+    ensures { result ≡ list_all (λ v. is_more v.lo hi (length2_of view.now.subject.now.condition.surface))
         (map (value_in view.now) (points_in view.now)) }
 {
-    match extremes_of(view, view.points()) {
+    match extremes_of(view, view.subject.points()) {
         None => true,
-        Some(x) => !is_at_most(x.least.lo, hi, length2(&view.condition.surface)),
+        Some(x) => !is_at_most(x.least.lo, hi, length2(&view.subject.condition.surface)),
     }
 }
 
 /// Whether all points of the condition pass a value by more than `slack`.
 pub fn group_exceeds(view: &View<'_>, slack: i64, value: Iv) -> bool
-    requires condition { IsCondition view.now.condition.now }
+    requires condition { IsCondition view.now.subject.now.condition }
     requires slack { IsBound slack }
-    requires value { IsSized view.now.condition.now.surface value }
-    ensures { result ≡ list_all (λ v. passes_by_more view.now.condition.now.surface slack v (ends value))
+    requires value { IsSized view.now.subject.now.condition.surface value }
+    ensures { result ≡ list_all (λ v. passes_by_more view.now.subject.now.condition.surface slack v (ends value))
         (map (value_in view.now) (points_in view.now)) }
 {
-    match extremes_of(view, view.points()) {
+    match extremes_of(view, view.subject.points()) {
         None => true,
-        Some(x) => passes_by_more(&view.condition.surface, x.least, value, slack),
+        Some(x) => passes_by_more(&view.subject.condition.surface, x.least, value, slack),
     }
 }
 
 /// Whether a value passes all points of the condition by more than `slack`.
 pub fn exceeds_group(view: &View<'_>, slack: i64, value: Iv) -> bool
-    requires condition { IsCondition view.now.condition.now }
+    requires condition { IsCondition view.now.subject.now.condition }
     requires slack { IsBound slack }
-    requires value { IsSized view.now.condition.now.surface value }
-    ensures { result ≡ list_all (λ v. passes_by_more view.now.condition.now.surface slack (ends value) v)
+    requires value { IsSized view.now.subject.now.condition.surface value }
+    ensures { result ≡ list_all (λ v. passes_by_more view.now.subject.now.condition.surface slack (ends value) v)
         (map (value_in view.now) (points_in view.now)) }
 {
-    match extremes_of(view, view.points()) {
+    match extremes_of(view, view.subject.points()) {
         None => true,
-        Some(x) => passes_by_more(&view.condition.surface, value, x.greatest, slack),
+        Some(x) => passes_by_more(&view.subject.condition.surface, value, x.greatest, slack),
     }
 }
 
 // Whether all points of the condition pass a point by more than `slack`.
 fn all_pass(view: &View<'_>, slack: i64, b: u32) -> bool
-    requires condition { IsCondition view.now.condition.now }
+    requires condition { IsCondition view.now.subject.now.condition }
     requires slack { IsBound slack }
     requires counts { 1 ≤ b }
     requires inside { b - 1 < length (rows_in view.now) }
-    ensures { result ≡ list_all (λ v. passes_by_more view.now.condition.now.surface slack v
+    ensures { result ≡ list_all (λ v. passes_by_more view.now.subject.now.condition.surface slack v
         (value_in view.now (b - 1)))
         (map (value_in view.now) (points_in view.now)) }
 {
@@ -208,11 +211,11 @@ fn all_pass(view: &View<'_>, slack: i64, b: u32) -> bool
 
 // Whether a point passes all points of the condition by more than `slack`.
 fn passes_all(view: &View<'_>, slack: i64, a: u32) -> bool
-    requires condition { IsCondition view.now.condition.now }
+    requires condition { IsCondition view.now.subject.now.condition }
     requires slack { IsBound slack }
     requires counts { 1 ≤ a }
     requires inside { a - 1 < length (rows_in view.now) }
-    ensures { result ≡ list_all (λ v. passes_by_more view.now.condition.now.surface slack
+    ensures { result ≡ list_all (λ v. passes_by_more view.now.subject.now.condition.surface slack
         (value_in view.now (a - 1)) v)
         (map (value_in view.now) (points_in view.now)) }
 {
@@ -222,11 +225,12 @@ fn passes_all(view: &View<'_>, slack: i64, a: u32) -> bool
 // Whether a pair of points refutes a condition of a demand.
 #[tactic(auto, unfolding(crate::specs::Evidence::refutes_by))]
 fn pair_refutes(view: &View<'_>, a: u32, b: u32) -> bool
-    requires condition { IsCondition view.now.condition.now }
-    ensures { result ≡ refutes_by view.now.condition.now (rows_in view.now) view.now.condition.now.demand
-        (value_in view.now) (map (value_in view.now) (points_in view.now)) a b }
+    requires condition { IsCondition view.now.subject.now.condition }
+    ensures { result ≡ refutes_by view.now.subject.now.condition (rows_in view.now)
+        view.now.subject.now.condition.demand (value_in view.now)
+        (map (value_in view.now) (points_in view.now)) a b }
 {
-    match view.condition.demand {
+    match view.subject.condition.demand {
         Demand::Within { lo, hi } => is_one_point(view, a, b) && outside_at(view, lo, hi, a),
         Demand::Spread { t } => are_points(view, a, b) && apart_at(view, t, a, b),
         Demand::Contact { hi } => are_none(a, b) && all_above(view, hi),
@@ -238,20 +242,15 @@ fn pair_refutes(view: &View<'_>, a: u32, b: u32) -> bool
 /// Whether evidence refutes a condition over a box of placements. Then no placement of the box meets it. The number of
 /// the condition that the evidence names isn't read: whoever has a list of conditions compares it. `base` is the part's
 /// first point, in units.
-pub fn bound_at(
-    condition: &Condition,
-    index: &PointIndex<'_>,
-    base: &V3,
-    placed: &Placed,
-    evidence: &Evidence,
-) -> bool
-    requires condition { IsCondition condition.now }
+pub fn bound_at(subject: &Subject<'_>, base: &V3, placed: &Placed, evidence: &Evidence) -> bool
+    requires condition { IsCondition subject.now.condition }
     requires base { IsWithin COORDINATE base.now }
     requires placed { IsPlaced placed.now }
-    ensures test { result
-        ≡ refuted_at (placed_ends placed.now) base.now index.now.table.now.rows condition.now evidence.now }
-    ensures unmet { result ≡ true → IsUnmet placed.now base.now index.now.table.now.rows condition.now }
+    ensures test { result ≡ refuted_at (placed_ends placed.now) base.now subject.now.index.now.table.now.rows
+        subject.now.condition evidence.now }
+    ensures unmet { result ≡ true
+        → IsUnmet placed.now base.now subject.now.index.now.table.now.rows subject.now.condition }
 {
-    let view = View::of(condition, index, base, placed);
+    let view = View::of(subject, base, placed);
     pair_refutes(&view, evidence.a, evidence.b)
 }

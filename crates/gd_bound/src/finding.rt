@@ -17,30 +17,29 @@ use crate::outside::is_outside;
 use crate::pair::Pair;
 use crate::threshold::{first_far, first_near, from_one, high_threshold, low_threshold};
 use gd_cells::Evidence;
-use gd_points::PointIndex;
 use gd_vec::V3;
-use gd_zone::{Condition, Demand, Placed, View, extremes_of};
+use gd_zone::{Demand, Placed, Subject, View, extremes_of};
 
 // Whether a point, by its number from 0, lies outside two bounds.
 fn is_outside_at(view: &View<'_>, lo: Option<i64>, hi: Option<i64>, number: u32) -> bool
-    requires condition { IsCondition view.now.condition.now }
+    requires condition { IsCondition view.now.subject.now.condition }
     requires lo { IfSome lo IsBound }
     requires hi { IfSome hi IsBound }
     requires number { number < length (rows_in view.now) }
-    ensures { result ≡ value_outside view.now.condition.now.surface lo hi (value_in view.now number) }
+    ensures { result ≡ value_outside view.now.subject.now.condition.surface lo hi (value_in view.now number) }
 {
-    is_outside(&view.condition.surface, lo, hi, view.value(number))
+    is_outside(&view.subject.condition.surface, lo, hi, view.value(number))
 }
 
 // The number from 1 of the first point that lies outside two bounds, and 0 where there is none.
 fn first_outside(view: &View<'_>, lo: Option<i64>, hi: Option<i64>) -> u32
-    requires condition { IsCondition view.now.condition.now }
+    requires condition { IsCondition view.now.subject.now.condition }
     requires lo { IfSome lo IsBound }
     requires hi { IfSome hi IsBound }
     ensures { result ≡ point_number (find
-        (λ i. value_outside view.now.condition.now.surface lo hi (value_in view.now i)) (points_in view.now)) }
+        (λ i. value_outside view.now.subject.now.condition.surface lo hi (value_in view.now i)) (points_in view.now)) }
 {
-    let numbers = view.points();
+    let numbers = view.subject.points();
     for at in 0..numbers.len() {
         if is_outside_at(view, lo, hi, numbers[at]) {
             return from_one(numbers[at]);
@@ -51,10 +50,10 @@ fn first_outside(view: &View<'_>, lo: Option<i64>, hi: Option<i64>) -> u32
 
 // The first point that lies outside.
 fn within_pair(view: &View<'_>, lo: Option<i64>, hi: Option<i64>) -> Option<Pair>
-    requires condition { IsCondition view.now.condition.now }
+    requires condition { IsCondition view.now.subject.now.condition }
     requires lo { IfSome lo IsBound }
     requires hi { IfSome hi IsBound }
-    ensures { result ≡ pair_by view.now.condition.now.surface (Within lo hi)
+    ensures { result ≡ pair_by view.now.subject.now.condition.surface (Within lo hi)
         (value_in view.now) (points_in view.now) (feature_in view.now) }
 {
     let a = first_outside(view, lo, hi);
@@ -63,13 +62,13 @@ fn within_pair(view: &View<'_>, lo: Option<i64>, hi: Option<i64>) -> Option<Pair
 
 // The first point with the greatest lower end, and the first with the least upper end.
 fn spread_pair(view: &View<'_>, t: i64) -> Option<Pair>
-    requires condition { IsCondition view.now.condition.now }
+    requires condition { IsCondition view.now.subject.now.condition }
     requires t { IsBound t }
-    ensures { result ≡ pair_by view.now.condition.now.surface (Spread t)
+    ensures { result ≡ pair_by view.now.subject.now.condition.surface (Spread t)
         (value_in view.now) (points_in view.now) (feature_in view.now) }
 {
-    let surface = &view.condition.surface;
-    let numbers = view.points();
+    let surface = &view.subject.condition.surface;
+    let numbers = view.subject.points();
     match extremes_of(view, numbers) {
         None => None,
         Some(x) => {
@@ -87,10 +86,10 @@ fn spread_pair(view: &View<'_>, t: i64) -> Option<Pair>
 
 // No point: all of the group lie above the bound.
 fn contact_pair(view: &View<'_>, hi: i64) -> Option<Pair>
-    requires condition { IsCondition view.now.condition.now }
+    requires condition { IsCondition view.now.subject.now.condition }
     requires hi { IsBound hi }
-    requires pair { IsPair view.now.condition.now.surface (Contact hi) }
-    ensures { result ≡ pair_by view.now.condition.now.surface (Contact hi)
+    requires pair { IsPair view.now.subject.now.condition.surface (Contact hi) }
+    ensures { result ≡ pair_by view.now.subject.now.condition.surface (Contact hi)
         (value_in view.now) (points_in view.now) (feature_in view.now) }
 {
     if all_above(view, hi) {
@@ -102,13 +101,13 @@ fn contact_pair(view: &View<'_>, hi: i64) -> Option<Pair>
 
 // The first point of the feature with the least upper end.
 fn inner_pair(view: &View<'_>, slack: i64) -> Option<Pair>
-    requires condition { IsCondition view.now.condition.now }
+    requires condition { IsCondition view.now.subject.now.condition }
     requires slack { IsBound slack }
-    requires pair { IsPair view.now.condition.now.surface (HugInner slack) }
-    ensures { result ≡ pair_by view.now.condition.now.surface (HugInner slack)
+    requires pair { IsPair view.now.subject.now.condition.surface (HugInner slack) }
+    ensures { result ≡ pair_by view.now.subject.now.condition.surface (HugInner slack)
         (value_in view.now) (points_in view.now) (feature_in view.now) }
 {
-    let numbers = view.feature();
+    let numbers = view.subject.feature();
     match extremes_of(view, numbers) {
         None => None,
         Some(x) => {
@@ -118,7 +117,7 @@ fn inner_pair(view: &View<'_>, slack: i64) -> Option<Pair>
                     b: first_near(
                         view,
                         numbers,
-                        high_threshold(&view.condition.surface, x.least.hi),
+                        high_threshold(&view.subject.condition.surface, x.least.hi),
                     ),
                 })
             } else {
@@ -130,13 +129,13 @@ fn inner_pair(view: &View<'_>, slack: i64) -> Option<Pair>
 
 // The first point of the feature with the greatest lower end.
 fn outer_pair(view: &View<'_>, slack: i64) -> Option<Pair>
-    requires condition { IsCondition view.now.condition.now }
+    requires condition { IsCondition view.now.subject.now.condition }
     requires slack { IsBound slack }
-    requires pair { IsPair view.now.condition.now.surface (HugOuter slack) }
-    ensures { result ≡ pair_by view.now.condition.now.surface (HugOuter slack)
+    requires pair { IsPair view.now.subject.now.condition.surface (HugOuter slack) }
+    ensures { result ≡ pair_by view.now.subject.now.condition.surface (HugOuter slack)
         (value_in view.now) (points_in view.now) (feature_in view.now) }
 {
-    let numbers = view.feature();
+    let numbers = view.subject.feature();
     match extremes_of(view, numbers) {
         None => None,
         Some(x) => {
@@ -145,7 +144,7 @@ fn outer_pair(view: &View<'_>, slack: i64) -> Option<Pair>
                     a: first_far(
                         view,
                         numbers,
-                        low_threshold(&view.condition.surface, x.greatest.lo),
+                        low_threshold(&view.subject.condition.surface, x.greatest.lo),
                     ),
                     b: 0,
                 })
@@ -158,11 +157,11 @@ fn outer_pair(view: &View<'_>, slack: i64) -> Option<Pair>
 
 // The pair that refutes a condition, if it is refuted.
 fn refuting_pair(view: &View<'_>) -> Option<Pair>
-    requires condition { IsCondition view.now.condition.now }
-    ensures { result ≡ pair_by view.now.condition.now.surface view.now.condition.now.demand
+    requires condition { IsCondition view.now.subject.now.condition }
+    ensures { result ≡ pair_by view.now.subject.now.condition.surface view.now.subject.now.condition.demand
         (value_in view.now) (points_in view.now) (feature_in view.now) }
 {
-    match view.condition.demand {
+    match view.subject.condition.demand {
         Demand::Within { lo, hi } => within_pair(view, lo, hi),
         Demand::Spread { t } => spread_pair(view, t),
         Demand::Contact { hi } => contact_pair(view, hi),
@@ -174,24 +173,20 @@ fn refuting_pair(view: &View<'_>) -> Option<Pair>
 /// The first evidence that refutes a condition over a box of placements, with the number of the condition. Then no
 /// placement of the box meets it. `None` exactly where no evidence refutes it. `base` is the part's first point, in
 /// units.
-pub fn bound(
-    condition: &Condition,
-    number: u32,
-    index: &PointIndex<'_>,
-    base: &V3,
-    placed: &Placed,
-) -> Option<Evidence>
-    requires condition { IsCondition condition.now }
+pub fn bound(subject: &Subject<'_>, number: u32, base: &V3, placed: &Placed) -> Option<Evidence>
+    requires condition { IsCondition subject.now.condition }
     requires base { IsWithin COORDINATE base.now }
     requires placed { IsPlaced placed.now }
-    ensures first { result ≡ first (placed_ends placed.now) base.now index.now.table.now.rows condition.now number }
-    ensures refuted { IfSome result (λ e.
-        refuted_at (placed_ends placed.now) base.now index.now.table.now.rows condition.now e ≡ true) }
-    ensures none { IsNone result
-        → NothingRefutes (placed_ends placed.now) base.now index.now.table.now.rows condition.now }
-    ensures unmet { IfSome result (λ _. IsUnmet placed.now base.now index.now.table.now.rows condition.now) }
+    ensures first { result ≡ first (placed_ends placed.now) base.now subject.now.index.now.table.now.rows
+        subject.now.condition number }
+    ensures refuted { IfSome result (λ e. refuted_at (placed_ends placed.now) base.now
+        subject.now.index.now.table.now.rows subject.now.condition e ≡ true) }
+    ensures none { IsNone result → NothingRefutes (placed_ends placed.now) base.now
+        subject.now.index.now.table.now.rows subject.now.condition }
+    ensures unmet { IfSome result (λ _.
+        IsUnmet placed.now base.now subject.now.index.now.table.now.rows subject.now.condition) }
 {
-    let view = View::of(condition, index, base, placed);
+    let view = View::of(subject, base, placed);
     match refuting_pair(&view) {
         None => None,
         Some(pair) => Some(Evidence {

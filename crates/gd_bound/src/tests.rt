@@ -10,7 +10,7 @@ use gd_interval::between;
 use gd_points::{PointIndex, read_points};
 use gd_quat::{Assignment, Ratios, VecBox};
 use gd_vec::V3;
-use gd_zone::{Condition, Demand, Placed, Surface, condition_holds, placed_at};
+use gd_zone::{Condition, Demand, Placed, Subject, Surface, condition_holds, placed_at};
 use std::alloc::Global;
 
 // The points of p lie 20, 10 and 5 units above the plane, and 5, 10 and 7 units from the axis. That of q lies 7 units
@@ -239,8 +239,9 @@ fn judged(alloc: Global, condition: &Condition, reach: u16) -> Option<Found>
 {
     let table = read_points(alloc, FILE).ok()?;
     let index = PointIndex::of(alloc, &table).ok()?;
+    let subject = Subject::of(condition, &index);
     let placed = unturned(reach);
-    let evidence = bound(condition, 9, &index, &ORIGIN, &placed);
+    let evidence = bound(&subject, 9, &ORIGIN, &placed);
     let refuted = match evidence {
         None => None,
         Some(e) => {
@@ -249,8 +250,8 @@ fn judged(alloc: Global, condition: &Condition, reach: u16) -> Option<Found>
                 a: e.b,
                 b: e.a,
             };
-            let refutes = bound_at(condition, &index, &ORIGIN, &placed, &e);
-            let exchanged = bound_at(condition, &index, &ORIGIN, &placed, &turned);
+            let refutes = bound_at(&subject, &ORIGIN, &placed, &e);
+            let exchanged = bound_at(&subject, &ORIGIN, &placed, &turned);
             if e.condition == 9 && refutes && (e.a == e.b || !exchanged) {
                 Some((e.a, e.b))
             } else {
@@ -259,7 +260,7 @@ fn judged(alloc: Global, condition: &Condition, reach: u16) -> Option<Found>
         }
     };
     Some(Found {
-        holds: condition_holds(condition, &index, &ORIGIN, &placed),
+        holds: condition_holds(&subject, &ORIGIN, &placed),
         refuted,
     })
 }

@@ -53,7 +53,7 @@ pub fn from_one(number: u32) -> u32
 
 // Whether the lower end of a point isn't below a threshold.
 fn is_far(view: &View<'_>, number: u32, threshold: i128) -> bool
-    requires condition { IsCondition view.now.condition.now }
+    requires condition { IsCondition view.now.subject.now.condition }
     requires number { number < length (rows_in view.now) }
     ensures { result ≡ int_le threshold (value_in view.now number).lo }
 {
@@ -62,7 +62,7 @@ fn is_far(view: &View<'_>, number: u32, threshold: i128) -> bool
 
 // Whether the upper end of a point isn't above a threshold.
 fn is_near(view: &View<'_>, number: u32, threshold: i128) -> bool
-    requires condition { IsCondition view.now.condition.now }
+    requires condition { IsCondition view.now.subject.now.condition }
     requires number { number < length (rows_in view.now) }
     ensures { result ≡ int_le (value_in view.now number).hi threshold }
 {
@@ -78,7 +78,7 @@ fn is_at_most(a: i128, b: i128) -> bool
 
 /// The number from 1 of the first of some points whose lower end isn't below a threshold, and 0 where there is none.
 pub fn first_far(view: &View<'_>, numbers: &[u32], threshold: i128) -> u32
-    requires condition { IsCondition view.now.condition.now }
+    requires condition { IsCondition view.now.subject.now.condition }
     requires below { All (λ number. number < length (rows_in view.now)) numbers.now }
     ensures { result ≡ point_number (find (λ i. int_le threshold (value_in view.now i).lo) numbers.now) }
 {
@@ -92,7 +92,7 @@ pub fn first_far(view: &View<'_>, numbers: &[u32], threshold: i128) -> u32
 
 /// The number from 1 of the first of some points whose upper end isn't above a threshold, and 0 where there is none.
 pub fn first_near(view: &View<'_>, numbers: &[u32], threshold: i128) -> u32
-    requires condition { IsCondition view.now.condition.now }
+    requires condition { IsCondition view.now.subject.now.condition }
     requires below { All (λ number. number < length (rows_in view.now)) numbers.now }
     ensures { result ≡ point_number (find (λ i. int_le (value_in view.now i).hi threshold) numbers.now) }
 {

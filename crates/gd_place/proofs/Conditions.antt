@@ -1,6 +1,6 @@
 -- Each condition of a position or an orientation frame is one that placements are judged by, and there is one a
 -- feature.
-use Rattle.std.proofs.Common.{◌≡◌, refl, sym, ℕ, ◌+◌, ◌*◌, ◌≤◌, true, List, [], ◌∷◌, length, Option, Some, None, pos, arith}
+use Rattle.std.proofs.Common.{◌≡◌, refl, sym, subst, ℕ, ◌+◌, ◌*◌, ◌≤◌, true, List, [], ◌∷◌, length, Option, Some, None, pos, arith}
 use Rattle.std.specs.Prelude.{◌-ℤ◌, slice_get, ◌≤ℤ◌}
 use Rattle.std.specs.List.{All, sum_by}
 use Rattle.std.specs.Option.{IfSome}
@@ -13,7 +13,7 @@ use Rattle.gd_datum.proofs.Conditions.{found, one, seen-whole, surface-sized}
 use Rattle.gd_datum.specs.Facts.{HasPoints}
 use Rattle.gd_datum.specs.Kinds.{nominal_surface, surface_of}
 use Rattle.gd_datum.specs.Listed.{listed_at}
-use Rattle.gd_frames.specs.Counts.{count_at, feature_conditions, frame_conditions, frame_offsets}
+use Rattle.gd_frames.specs.Counts.{count_at, feature_conditions, feature_offsets, frame_conditions, frame_offsets}
 use Rattle.gd_frames.specs.Facts.{IsFeature, IsFile}
 use Rattle.gd_place.specs.Facts.{IsPlaced, WasRead, is_placed}
 use Rattle.gd_place.specs.Kinds.{demand, less_tolerance, on_feature, own_offset, with_tolerance}
@@ -86,41 +86,82 @@ demand-pair material.Lmc shape.Axis direction point def t = tt
 demand-pair material.Lmc shape.Sphere direction point def t = tt
 
 -- ---- offsets
+-- the features before have left an offset, or the next ones take none but those that the limit leaves
+abbrev HasRoom : Kind → ℕ → Type 0
+HasRoom kind.Orientation offset = Unit {0}
+HasRoom _ offset = offset ≤ 2
+
+room : (k : Kind) (offset : ℕ) → offset ≤ 2 → HasRoom k offset
+room kind.Orientation offset h = tt
+room kind.Flatness offset h = h
+room kind.Straightness offset h = h
+room kind.Circularity offset h = h
+room kind.Cylindricity offset h = h
+room kind.Position offset h = h
+room kind.Profile offset h = h
+room kind.CircularRunout offset h = h
+room kind.TotalRunout offset h = h
+
 -- a feature's own offset passes no limit that leaves room for the offsets that it takes
-own-few : (k : Kind) (s : Shape) (offset : ℕ) → offset ≤ 2 → own_offset k s offset ≤ 2
-own-few kind.Orientation shape.Plane offset h = omega arith
-own-few kind.Orientation shape.Hole offset h = h
-own-few kind.Orientation shape.Pin offset h = h
-own-few kind.Orientation shape.Axis offset h = h
-own-few kind.Orientation shape.Sphere offset h = h
-own-few kind.Flatness s offset h = h
-own-few kind.Straightness s offset h = h
-own-few kind.Circularity s offset h = h
-own-few kind.Cylindricity s offset h = h
-own-few kind.Position s offset h = h
-own-few kind.Profile s offset h = h
-own-few kind.CircularRunout s offset h = h
-own-few kind.TotalRunout s offset h = h
+own-few : (k : Kind) (s : Shape) (offset : ℕ) → HasRoom k offset → offset + feature_offsets k s ≤ 3 → own_offset k s offset ≤ 2
+own-few kind.Orientation shape.Plane offset h few = omega arith
+own-few kind.Orientation shape.Hole offset h few = omega (arith, few)
+own-few kind.Orientation shape.Pin offset h few = omega (arith, few)
+own-few kind.Orientation shape.Axis offset h few = omega (arith, few)
+own-few kind.Orientation shape.Sphere offset h few = omega (arith, few)
+own-few kind.Flatness s offset h few = h
+own-few kind.Straightness s offset h few = h
+own-few kind.Circularity s offset h few = h
+own-few kind.Cylindricity s offset h few = h
+own-few kind.Position s offset h few = h
+own-few kind.Profile s offset h few = h
+own-few kind.CircularRunout s offset h few = h
+own-few kind.TotalRunout s offset h few = h
+
+-- and there is room behind it
+stays : (offset : ℕ) → offset ≤ 2 → offset + 0 ≤ 2
+stays offset h = omega (arith, h)
+
+room-after : (k : Kind) (s : Shape) (offset : ℕ) → HasRoom k offset → HasRoom k (offset + feature_offsets k s)
+room-after kind.Orientation s offset h = tt
+room-after kind.Flatness s offset h = stays offset h
+room-after kind.Straightness s offset h = stays offset h
+room-after kind.Circularity s offset h = stays offset h
+room-after kind.Cylindricity s offset h = stays offset h
+room-after kind.Position s offset h = stays offset h
+room-after kind.Profile s offset h = stays offset h
+room-after kind.CircularRunout s offset h = stays offset h
+room-after kind.TotalRunout s offset h = stays offset h
+
+room-past : (k : Kind) (offset : ℕ) → HasRoom k offset → HasRoom k (offset + 0)
+room-past k offset h =
+    let same : offset ≡ offset + 0 = omega arith in
+    subst (HasRoom k) same h
+
+room-at : (k : Kind) (offset : ℕ) (o : Option FeatureDef) → HasRoom k offset → HasRoom k (offset + count_at (λ (def : FeatureDef). feature_offsets k def.shape) o)
+room-at k offset None h = room-past k offset h
+room-at k offset (Some def) h = room-after k def.shape offset h
 
 module _ (features : List FeatureDef) (k : Kind) (m : Material) (t : ℕ) where
-  feature-ok : (points offset : ℕ) (o : Option FeatureDef) → IfSome o (IsFeature points) → t ≤ 16000000 → offset ≤ 2 → All IsCondition (listed_at (of_feature k m t offset) o)
-  feature-ok points offset None f h few = All-nil IsCondition
-  feature-ok points offset (Some def) f h few =
+  feature-ok : (points offset : ℕ) (o : Option FeatureDef) → IfSome o (IsFeature points) → t ≤ 16000000 → HasRoom k offset
+      → offset + count_at (λ (def : FeatureDef). feature_offsets k def.shape) o ≤ 3 → All IsCondition (listed_at (of_feature k m t offset) o)
+  feature-ok points offset None f h free few = All-nil IsCondition
+  feature-ok points offset (Some def) f h free few =
       All-cons IsCondition (on_feature def (demand m def.shape def t) (own_offset k def.shape offset)) []
       (one (nominal_surface def) (demand m def.shape def t) def.feature None (own_offset k def.shape offset) (demand-pair m def.shape def.direction def.point def t)
-      (surface-sized def.shape def.direction def.point f.direction f.point) (demand-sized points m def.shape def t f h) (own-few k def.shape offset few))
+      (surface-sized def.shape def.direction def.point f.direction f.point) (demand-sized points m def.shape def t f h) (own-few k def.shape offset free few))
       (All-nil IsCondition)
 
-  pub places-ok : (points offset : ℕ) (places : List ℕ) → All (IsFeature points) features → t ≤ 16000000 → offset + sum_by (offsets_at features k) places ≤ 2
-      → All IsCondition (of_places features k m t offset places)
-  places-ok points offset [] fs h few = All-nil IsCondition
-  places-ok points offset (place ∷ more) fs h few =
+  pub places-ok : (points offset : ℕ) (places : List ℕ) → All (IsFeature points) features → t ≤ 16000000 → HasRoom k offset
+      → offset + sum_by (offsets_at features k) places ≤ 3 → All IsCondition (of_places features k m t offset places)
+  places-ok points offset [] fs h free few = All-nil IsCondition
+  places-ok points offset (place ∷ more) fs h free few =
       let sum = sum_by-cons (offsets_at features k) place more in
-      let rest : (offset + offsets_at features k place) + sum_by (offsets_at features k) more ≤ 2 = omega (arith, sum, few) in
-      let here : offset ≤ 2 = omega (arith, few) in
+      let rest : (offset + offsets_at features k place) + sum_by (offsets_at features k) more ≤ 3 = omega (arith, sum, few) in
+      let here : offset + offsets_at features k place ≤ 3 = omega (arith, sum, few) in
       All-append IsCondition (listed_at (of_feature k m t offset) (slice_get features place)) (of_places features k m t (offset + offsets_at features k place) more)
-      (feature-ok points offset (slice_get features place) (found features (IsFeature points) place fs) h here)
-      (places-ok points (offset + offsets_at features k place) more fs h rest)
+      (feature-ok points offset (slice_get features place) (found features (IsFeature points) place fs) h free here)
+      (places-ok points (offset + offsets_at features k place) more fs h (room-at k offset (slice_get features place) free) rest)
 
   -- ---- points
   feature-seen : (rows : List Row) (points offset : ℕ) → HasRows rows points → (o : Option FeatureDef) → IfSome o (IsFeature points) → All (HasPoints rows) (listed_at (of_feature k m t offset) o)
@@ -164,10 +205,10 @@ module _ (features : List FeatureDef) (k : Kind) (m : Material) (t : ℕ) where
 
 -- ---- a frame by its place
 module _ (file : File) (t offset : ℕ) where
-  frame-ok : (points : ℕ) (o : Option Frame) → All (IsFeature points) file.features → t ≤ 16000000
-      → IfSome o (λ (f : Frame). offset + frame_offsets file.features f ≤ 2) → All IsCondition (listed_at (of_features file.features t offset) o)
-  frame-ok points None fs h few = All-nil IsCondition
-  frame-ok points (Some f) fs h few = places-ok file.features f.kind f.material t points offset f.features fs h few
+  frame-ok : (points : ℕ) (o : Option Frame) → All (IsFeature points) file.features → t ≤ 16000000 → offset ≤ 2
+      → IfSome o (λ (f : Frame). offset + frame_offsets file.features f ≤ 3) → All IsCondition (listed_at (of_features file.features t offset) o)
+  frame-ok points None fs h low few = All-nil IsCondition
+  frame-ok points (Some f) fs h low few = places-ok file.features f.kind f.material t points offset f.features fs h (room f.kind offset low) few
 
   frame-seen : (rows : List Row) (points : ℕ) (o : Option Frame) → HasRows rows points → All (IsFeature points) file.features → All (HasPoints rows) (listed_at (of_features file.features t offset) o)
   frame-seen rows points None used fs = All-nil (HasPoints rows)
@@ -179,7 +220,7 @@ module _ (file : File) (t offset : ℕ) where
   frame-length rows (Some f) h = places-length file.features f.kind f.material t rows offset f.features h
 
   pub is-ok : (number : ℕ) → WasRead file → IsPlaced file number offset → t ≤ 16000000 → All IsCondition (of_frame file number t offset)
-  is-ok number was placed h = frame-ok (length was.0.names) (slice_get file.frames number) was.1.features h placed.offsets
+  is-ok number was placed h = frame-ok (length was.0.names) (slice_get file.frames number) was.1.features h placed.few placed.offsets
 
   pub is-seen : (number : ℕ) (points : Table) → IsFile points file → HasRows points.rows (length points.names) → All (HasPoints points.rows) (of_frame file number t offset)
   is-seen number points was used = frame-seen points.rows (length points.names) (slice_get file.frames number) used was.features

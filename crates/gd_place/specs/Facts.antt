@@ -19,10 +19,10 @@ is_placed kind.Position = true
 is_placed kind.Orientation = true
 is_placed _ = false
 
--- a frame by its place is of one of these kinds; from the first offset on those of its features are at most 2, and an
--- orientation begins with 1 or 2: with 0 it would be located
+-- a frame by its place is of one of these kinds. A position has the one offset, which is at most 2. The offsets of an
+-- orientation begin with 1 or 2, since with 0 it would be located, and the one after its last is at most 3
 pub record IsPlaced (file : File) (number offset : ℕ) : Type 0 where
   pub of_kind : IfSome (slice_get file.frames number) (λ (f : Frame). is_placed f.kind ≡ true)
   pub few : offset ≤ OFFSETS
   pub moved : IfSome (slice_get file.frames number) (λ (f : Frame). f.kind ≡ kind.Orientation → 0 < offset)
-  pub offsets : IfSome (slice_get file.frames number) (λ (f : Frame). offset + frame_offsets file.features f ≤ OFFSETS)
+  pub offsets : IfSome (slice_get file.frames number) (λ (f : Frame). offset + frame_offsets file.features f ≤ OFFSETS + 1)

@@ -61,7 +61,7 @@ fn of_frame(
     offset: u32,
 ) -> Result<Vec<Condition>, Memory>
     requires { IfSome (slice_get (file_of file.now).frames frame)
-        (λ f. offset + frame_offsets file.now.features.items f ≤ OFFSETS) }
+        (λ f. offset + frame_offsets file.now.features.items f ≤ OFFSETS + 1) }
     ensures { IfOk result (λ v. v.items ≡ of_frame (file_of file.now) frame t offset) }
 {
     match file.frames.get(frame as usize) {
@@ -78,7 +78,7 @@ fn of_features(
     t: u32,
     offset: u32,
 ) -> Result<Vec<Condition>, Memory>
-    requires offsets { offset + frame_offsets features.now (frame_of frame.now) ≤ OFFSETS }
+    requires offsets { offset + frame_offsets features.now (frame_of frame.now) ≤ OFFSETS + 1 }
     ensures { IfOk result (λ v. v.items ≡ of_features features.now t offset (frame_of frame.now)) }
 {
     let mut conditions = Vec::new(alloc);

@@ -8,3 +8,4 @@ mod KnownValues
 pub mod Tables
 pub mod More
 pub mod Ordered
+pub mod ByNumber

@@ -118,7 +118,7 @@ in_row rows i P less each = elim ((slice_get_cases rows i).1) [
   | inr (past, none) ↦ absurd (omega arith)
 ]
 
-on_range : (n : ℕ) (P : ℕ → Type 0) → ((i : ℕ) → i < n → P i) → All P (range_with_len 0 n)
+pub on_range : (n : ℕ) (P : ℕ → Type 0) → ((i : ℕ) → i < n → P i) → All P (range_with_len 0 n)
 on_range n P each = λ i d less.
     let size = length-range_with_len 0 n in
     let same : 0 + i ≡ i = omega arith in

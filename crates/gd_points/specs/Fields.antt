@@ -1,8 +1,4 @@
 -- What the fields that the reader takes from a record stand for. Its private functions alone cite it.
-use Rattle.std.specs.Prelude.{◌≡◌, Result, Ok, Err}
-use Rattle.gd_base.specs.declared.fault.InputFault.{InputFault}
-use Rattle.gd_base.specs.declared.fault.ReadFault.{ReadFault}
-use Rattle.gd_base.specs.declared.fault.ReadFault.TheVariants as read_fault
 use Rattle.gd_points.specs.Points.{Five, Point}
 use Rattle.gd_points.specs.Named.{name_in}
 use Rattle.gd_points.specs.Table.{Table}

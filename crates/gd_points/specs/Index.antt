@@ -1,8 +1,9 @@
 -- The points of a feature, and of a feature and group, by their numbers. A point's number is the place of its row, from 0.
-use Rattle.std.specs.Prelude.{ℕ, ◌+◌, ◌*◌, ◌≡◌, Bool, false, List, Option, Some, None, length, slice_get}
-use Rattle.std.specs.Prelude.{filter, ◌==◌, ◌&&◌}
+use Rattle.std.specs.Prelude.{ℕ, ◌+◌, ◌*◌, ◌≡◌, ℤ, pos, Bool, false, List, Option, Some, None, get_or, length, slice_get}
+use Rattle.std.specs.Prelude.{filter, map, ◌==◌, ◌&&◌}
 use Rattle.std.specs.List.{range_with_len}
 use Rattle.std.specs.List.Sorted.{IsNonDecreasingBy}
+use Rattle.gd_points.specs.Columns.{AreColumns, label_of}
 use Rattle.gd_points.specs.declared.index.OrderBy.{OrderBy}
 use Rattle.gd_points.specs.declared.index.OrderBy.TheVariants as by
 use Rattle.gd_points.specs.declared.table.Label.{Label}
@@ -24,6 +25,10 @@ passes test (Some row) = test row
 abbrev pub numbers_where : (Row → Bool) → List Row → List ℕ
 numbers_where test rows = filter (λ i. passes test (slice_get rows i)) (range_with_len 0 (length rows))
 
+-- the row with a number, and one of noughts where there is none
+abbrev pub row_at : List Row → ℕ → Row
+row_at rows i = get_or rows i (record { feature = 0; group = 0; at = record { x = pos 0; y = pos 0; z = pos 0 } })
+
 -- ---- how an index keeps them
 -- what numbers are ordered by: the feature, or the feature and then the group
 abbrev pub key_of : OrderBy → Label → ℕ
@@ -43,3 +48,8 @@ pub record IsOrdered (order : OrderBy) (labels : List Label) (numbers : List ℕ
   pub up : IsNonDecreasingBy (key_at order labels) numbers
   pub same : (key : ℕ) → filter (λ i. key_at order labels i == key) numbers
       ≡ filter (λ i. key_at order labels i == key) (range_with_len 0 (length labels))
+
+-- these are the numbers of all points in this order, and beside them the coordinates of the same points
+pub record IsInOrder (order : OrderBy) (rows : List Row) (numbers : List ℕ) (xs ys zs : List ℤ) : Type 0 where
+  pub ordered : IsOrdered order (map label_of rows) numbers
+  pub columns : AreColumns xs ys zs (map (row_at rows) numbers)

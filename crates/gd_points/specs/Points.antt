@@ -1,5 +1,5 @@
 -- The table that a points file stands for, or its first fault: row by row, and in a row from left to right.
-use Rattle.std.specs.Prelude.{ℕ, ◌+◌, ◌≡◌, ℤ, pos, negsuc, Bool, false, List, [], ◌∷◌, Option, Some, None, Result, Ok}
+use Rattle.std.specs.Prelude.{ℕ, ◌+◌, ℤ, pos, negsuc, Bool, false, List, [], ◌∷◌, Option, Some, None, Result, Ok}
 use Rattle.std.specs.Prelude.{Err, length, nat_lt, nat_eq, ◌==◌, ◌&&◌, int_le, unsigned_abs, codes, if◌then◌else◌}
 use Rattle.std.specs.Cmp.Lexicographic.{pointwise}
 use Rattle.gd_base.specs.Causes.{and_then_read}
@@ -7,8 +7,6 @@ use Rattle.gd_base.specs.Limits.{COORDINATE, POINTS}
 use Rattle.csv.specs.Reading.{default_config, records, strip_bom}
 use Rattle.gd_base.specs.Names.{name_of}
 use Rattle.gd_base.specs.declared.fault.InputFault.{InputFault}
-use Rattle.gd_base.specs.declared.fault.ReadFault.{ReadFault}
-use Rattle.gd_base.specs.declared.fault.ReadFault.TheVariants as read_fault
 use Rattle.gd_points.specs.Numbers.{number_of}
 use Rattle.gd_points.specs.Rules.{fault}
 use Rattle.gd_points.specs.Table.{Table, empty_table, with_point}

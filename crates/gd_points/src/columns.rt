@@ -1,7 +1,8 @@
 // The coordinates of points, axis by axis.
 ghost use Rattle.std.specs.Prelude.{◌≡◌, ◌≤◌, ◌<◌, ◌++◌, [], ◌∷◌, OnOk, vec_capacity, vec_len, unsigned_abs, get_or};
-ghost use Rattle.std.specs.Prelude.{pos};
-ghost use Rattle.gd_base.specs.Limits.{COORDINATE};
+ghost use Rattle.std.specs.Prelude.{pos, length};
+ghost use Rattle.std.specs.List.{All};
+ghost use Rattle.gd_base.specs.Limits.{COORDINATE, POINTS};
 ghost use Rattle.gd_vec.specs.Vector.{IsWithin};
 
 use gd_vec::V3;
@@ -16,6 +17,23 @@ pub struct Columns<'a> {
     pub y: &'a [i32],
     /// Their third coordinates.
     pub z: &'a [i32],
+}
+
+/// The points of a feature, or of a group of it: their numbers, ascending, and their coordinates in that order. A
+/// number is the place of a point's row in the table, from 0.
+#[derive(Clone, Copy)]
+pub struct PointList<'a> {
+    /// The numbers of the points.
+    pub numbers: &'a [u32],
+    /// Their coordinates, each within 8,000,000 units.
+    pub columns: Columns<'a>,
+    ghost few: { length numbers.now ≤ POINTS },
+    ghost x: { length columns.x.now ≡ length numbers.now },
+    ghost y: { length columns.y.now ≡ length numbers.now },
+    ghost z: { length columns.z.now ≡ length numbers.now },
+    ghost x_within: { All (λ x. unsigned_abs x ≤ COORDINATE) columns.x.now },
+    ghost y_within: { All (λ y. unsigned_abs y ≤ COORDINATE) columns.y.now },
+    ghost z_within: { All (λ z. unsigned_abs z ≤ COORDINATE) columns.z.now },
 }
 
 /// The lists that columns borrow.

@@ -8,7 +8,7 @@ mod read;
 mod rule;
 mod table;
 
-pub use columns::Columns;
+pub use columns::{Columns, PointList};
 pub use index::PointIndex;
 pub use read::read_points;
 pub use rule::Rule;

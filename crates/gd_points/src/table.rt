@@ -3,7 +3,7 @@ ghost use Rattle.std.specs.Prelude.{◌≡◌, ◌<◌, ◌≤◌, ◌^◌, leng
 ghost use Rattle.std.specs.Prelude.{map, nat_eq, true, ◌==◌};
 ghost use Rattle.indexmap.specs.IndexSet.{insert_key};
 ghost use Rattle.gd_points.specs.Named.{IsNamed, name_in};
-ghost use Rattle.gd_points.specs.Table.{AreNames};
+ghost use Rattle.gd_points.specs.Table.{AreNames, HasRows};
 ghost use Rattle.gd_base.specs.Names.{is_name};
 ghost use Rattle.std.specs.Cmp.Lexicographic.{pointwise};
 ghost use Rattle.std.specs.List.{All, Any, IsDistinct, position_or_len};
@@ -177,6 +177,7 @@ impl PointTable {
         ensures labels { result.now ≡ map label_of self.now.rows }
         ensures few { length result.now ≤ POINTS }
         ensures groups { All (λ row. row.group ≤ GROUP) self.now.rows }
+        ensures within { All (λ row. IsWithin COORDINATE row.at) self.now.rows }
     {
         self.labels.as_slice()
     }
@@ -196,7 +197,8 @@ impl PointTable {
 
     /// How many features have points. Their numbers are those below it.
     pub fn features(&self) -> u32
-        ensures { result ≡ length self.now.names }
+        ensures count { result ≡ length self.now.names }
+        ensures used { HasRows self.now.rows (length self.now.names) }
     {
         self.names.len() as u32
     }

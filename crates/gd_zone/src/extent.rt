@@ -53,13 +53,13 @@ fn with(found: Extremes, value: Iv) -> Extremes
 
 /// The extremes of the values of some points, by their numbers. `None` where there are no points.
 pub fn extremes_of(view: &View<'_>, numbers: &[u32]) -> Option<Extremes>
-    requires condition { IsCondition view.now.condition.now }
+    requires condition { IsCondition view.now.subject.now.condition }
     requires below { All (λ number. number < length (rows_in view.now)) numbers.now }
     ensures none { IsNone result → numbers.now ≡ [] }
     ensures some { IfSome result (λ x. AreExtremes (map (value_in view.now) numbers.now)
         (ends x.least) (ends x.greatest)) }
-    ensures least { IfSome result (λ x. IsSized view.now.condition.now.surface x.least) }
-    ensures greatest { IfSome result (λ x. IsSized view.now.condition.now.surface x.greatest) }
+    ensures least { IfSome result (λ x. IsSized view.now.subject.now.condition.surface x.least) }
+    ensures greatest { IfSome result (λ x. IsSized view.now.subject.now.condition.surface x.greatest) }
 {
     if numbers.is_empty() {
         return None;

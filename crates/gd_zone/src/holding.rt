@@ -9,19 +9,19 @@ ghost use Rattle.gd_vec.specs.Vector.{IsWithin};
 ghost use Rattle.gd_zone.specs.Boxes.{HoldsPlacement, IsPlaced, grid_placed, placed_ends};
 ghost use Rattle.gd_zone.specs.Conditions.{IsBound, IsCondition, IsPair, IsSurface, Meets, length2_of};
 ghost use Rattle.gd_zone.specs.Extremes.{at_widest, value_within};
-ghost use Rattle.gd_zone.specs.Seen.{feature_in, points_in, value_in};
+ghost use Rattle.gd_zone.specs.Seen.{SubjectMet, feature_in, points_in, subject_holds, value_in};
 ghost use Rattle.gd_zone.specs.Tests.{condition_holds, distance_within, is_at_least, is_at_most, passes, plane_within};
 ghost use Rattle.gd_zone.specs.Tests.{square_bound, surface_holds};
 ghost use Rattle.gd_zone.specs.Values.{IsSized, IsSizedEnd};
 ghost use Rattle.gd_zone.specs.declared.condition.Demand.TheVariants.{Contact, HugInner, HugOuter, Spread, Within};
 
 use crate::compare::{at_widest, is_at_least, is_at_most, length2, square_bound};
-use crate::condition::{Condition, Demand, Surface};
+use crate::condition::{Demand, Surface};
 use crate::extent::extremes_of;
 use crate::placed::{Placed, placed_at};
+use crate::subject::Subject;
 use crate::view::View;
 use gd_interval::Iv;
-use gd_points::PointIndex;
 use gd_quat::Assignment;
 use gd_vec::V3;
 
@@ -129,17 +129,17 @@ fn passes_at_most(surface: &Surface, hi: i128, lo: i128, t: i64) -> bool
 
 // Whether all points lie within two bounds. The first that doesn't ends the loop.
 fn all_within(view: &View<'_>, lo: Option<i64>, hi: Option<i64>) -> bool
-    requires condition { IsCondition view.now.condition.now }
+    requires condition { IsCondition view.now.subject.now.condition }
     requires lo { IfSome lo IsBound }
     requires hi { IfSome hi IsBound }
-    ensures { result ≡ surface_holds view.now.condition.now.surface (Within lo hi)
+    ensures { result ≡ surface_holds view.now.subject.now.condition.surface (Within lo hi)
         (map (value_in view.now) (points_in view.now))
         (map (value_in view.now) (feature_in view.now)) }
 {
-    let numbers = view.points();
+    let numbers = view.subject.points();
     for at in 0..numbers.len() {
         let value = view.value(numbers[at]);
-        if !is_within(&view.condition.surface, lo, hi, value) {
+        if !is_within(&view.subject.condition.surface, lo, hi, value) {
             return false;
         }
     }
@@ -148,46 +148,51 @@ fn all_within(view: &View<'_>, lo: Option<i64>, hi: Option<i64>) -> bool
 
 // Whether the greatest value passes the least by `t` at most.
 fn spread_holds(view: &View<'_>, t: i64) -> bool
-    requires condition { IsCondition view.now.condition.now }
+    requires condition { IsCondition view.now.subject.now.condition }
     requires t { IsBound t }
-    ensures { result ≡ surface_holds view.now.condition.now.surface (Spread t)
+    ensures { result ≡ surface_holds view.now.subject.now.condition.surface (Spread t)
         (map (value_in view.now) (points_in view.now))
         (map (value_in view.now) (feature_in view.now)) }
 {
-    match extremes_of(view, view.points()) {
+    match extremes_of(view, view.subject.points()) {
         None => true,
-        Some(x) => passes_at_most(&view.condition.surface, x.greatest.hi, x.least.lo, t),
+        Some(x) => passes_at_most(
+            &view.subject.condition.surface,
+            x.greatest.hi,
+            x.least.lo,
+            t,
+        ),
     }
 }
 
 // Whether the least value of the group isn't above a bound.
 fn contact_holds(view: &View<'_>, hi: i64) -> bool
-    requires condition { IsCondition view.now.condition.now }
+    requires condition { IsCondition view.now.subject.now.condition }
     requires hi { IsBound hi }
-    requires pair { IsPair view.now.condition.now.surface (Contact hi) }
-    ensures { result ≡ surface_holds view.now.condition.now.surface (Contact hi)
+    requires pair { IsPair view.now.subject.now.condition.surface (Contact hi) }
+    ensures { result ≡ surface_holds view.now.subject.now.condition.surface (Contact hi)
         (map (value_in view.now) (points_in view.now))
         (map (value_in view.now) (feature_in view.now)) }
 {
-    match extremes_of(view, view.points()) {
+    match extremes_of(view, view.subject.points()) {
         None => false,
-        Some(x) => is_at_most(x.least.hi, hi, length2(&view.condition.surface)),
+        Some(x) => is_at_most(x.least.hi, hi, length2(&view.subject.condition.surface)),
     }
 }
 
 // Whether the least distance of the group passes that of the feature by `slack` at most.
 fn inner_holds(view: &View<'_>, slack: i64) -> bool
-    requires condition { IsCondition view.now.condition.now }
+    requires condition { IsCondition view.now.subject.now.condition }
     requires slack { IsBound slack }
-    requires pair { IsPair view.now.condition.now.surface (HugInner slack) }
-    ensures { result ≡ surface_holds view.now.condition.now.surface (HugInner slack)
+    requires pair { IsPair view.now.subject.now.condition.surface (HugInner slack) }
+    ensures { result ≡ surface_holds view.now.subject.now.condition.surface (HugInner slack)
         (map (value_in view.now) (points_in view.now))
         (map (value_in view.now) (feature_in view.now)) }
 {
-    let surface = &view.condition.surface;
+    let surface = &view.subject.condition.surface;
     match (
-        extremes_of(view, view.points()),
-        extremes_of(view, view.feature()),
+        extremes_of(view, view.subject.points()),
+        extremes_of(view, view.subject.feature()),
     ) {
         (None, _) => false,
         (Some(_), None) => true,
@@ -197,17 +202,17 @@ fn inner_holds(view: &View<'_>, slack: i64) -> bool
 
 // Whether the greatest distance of the feature passes that of the group by `slack` at most.
 fn outer_holds(view: &View<'_>, slack: i64) -> bool
-    requires condition { IsCondition view.now.condition.now }
+    requires condition { IsCondition view.now.subject.now.condition }
     requires slack { IsBound slack }
-    requires pair { IsPair view.now.condition.now.surface (HugOuter slack) }
-    ensures { result ≡ surface_holds view.now.condition.now.surface (HugOuter slack)
+    requires pair { IsPair view.now.subject.now.condition.surface (HugOuter slack) }
+    ensures { result ≡ surface_holds view.now.subject.now.condition.surface (HugOuter slack)
         (map (value_in view.now) (points_in view.now))
         (map (value_in view.now) (feature_in view.now)) }
 {
-    let surface = &view.condition.surface;
+    let surface = &view.subject.condition.surface;
     match (
-        extremes_of(view, view.points()),
-        extremes_of(view, view.feature()),
+        extremes_of(view, view.subject.points()),
+        extremes_of(view, view.subject.feature()),
     ) {
         (None, _) => false,
         (Some(_), None) => true,
@@ -222,12 +227,12 @@ fn outer_holds(view: &View<'_>, slack: i64) -> bool
 
 // The test of a condition's own demand.
 fn demand_holds(view: &View<'_>) -> bool
-    requires condition { IsCondition view.now.condition.now }
-    ensures { result ≡ surface_holds view.now.condition.now.surface view.now.condition.now.demand
+    requires condition { IsCondition view.now.subject.now.condition }
+    ensures { result ≡ surface_holds view.now.subject.now.condition.surface view.now.subject.now.condition.demand
         (map (value_in view.now) (points_in view.now))
         (map (value_in view.now) (feature_in view.now)) }
 {
-    match view.condition.demand {
+    match view.subject.condition.demand {
         Demand::Within { lo, hi } => all_within(view, lo, hi),
         Demand::Spread { t } => spread_holds(view, t),
         Demand::Contact { hi } => contact_holds(view, hi),
@@ -238,32 +243,27 @@ fn demand_holds(view: &View<'_>) -> bool
 
 /// Whether a condition holds over a box of placements by its written test. Then it is met at every placement that the
 /// box holds. `base` is the part's first point, in units.
-pub fn condition_holds(
-    condition: &Condition,
-    index: &PointIndex<'_>,
-    base: &V3,
-    placed: &Placed,
-) -> bool
-    requires condition { IsCondition condition.now }
+pub fn condition_holds(subject: &Subject<'_>, base: &V3, placed: &Placed) -> bool
+    requires condition { IsCondition subject.now.condition }
     requires base { IsWithin COORDINATE base.now }
     requires placed { IsPlaced placed.now }
-    ensures test { result ≡ condition_holds (placed_ends placed.now) base.now index.now.table.now.rows condition.now }
+    ensures test { result ≡ condition_holds (placed_ends placed.now) base.now
+        subject.now.index.now.table.now.rows subject.now.condition }
     ensures met { result ≡ true → (p : Placement) → IsPlacement p → HoldsPlacement placed.now p
-        → Meets p base.now index.now.table.now.rows condition.now }
+        → Meets p base.now subject.now.index.now.table.now.rows subject.now.condition }
 {
-    demand_holds(&View::of(condition, index, base, placed))
+    demand_holds(&View::of(subject, base, placed))
 }
 
 // Whether all conditions hold over a box of placements. The first that doesn't ends the loop.
-fn all_hold(conditions: &[Condition], index: &PointIndex<'_>, base: &V3, placed: &Placed) -> bool
-    requires conditions { All IsCondition conditions.now }
+fn all_hold(subjects: &[Subject<'_>], base: &V3, placed: &Placed) -> bool
+    requires conditions { All (λ s. IsCondition s.condition) subjects.now }
     requires base { IsWithin COORDINATE base.now }
     requires placed { IsPlaced placed.now }
-    ensures { result
-        ≡ list_all (condition_holds (placed_ends placed.now) base.now index.now.table.now.rows) conditions.now }
+    ensures { result ≡ list_all (subject_holds (placed_ends placed.now) base.now) subjects.now }
 {
-    for at in 0..conditions.len() {
-        if !condition_holds(&conditions[at], index, base, placed) {
+    for at in 0..subjects.len() {
+        if !condition_holds(&subjects[at], base, placed) {
             return false;
         }
     }
@@ -272,16 +272,15 @@ fn all_hold(conditions: &[Condition], index: &PointIndex<'_>, base: &V3, placed:
 
 /// Whether all conditions hold at a placement of the grid by their written tests. Then it meets all of them, exactly.
 /// `base` is the part's first point, in units.
-pub fn holds(conditions: &[Condition], index: &PointIndex<'_>, base: &V3, a: &Assignment) -> bool
-    requires conditions { All IsCondition conditions.now }
+pub fn holds(subjects: &[Subject<'_>], base: &V3, a: &Assignment) -> bool
+    requires conditions { All (λ s. IsCondition s.condition) subjects.now }
     requires base { IsWithin COORDINATE base.now }
     requires grid { IsOnGrid a.now }
     requires shift { IsWithin (2 ^ 45) a.now.shift }
     requires first { IsWithin (2 ^ 45) a.now.first }
     requires second { IsWithin (2 ^ 45) a.now.second }
-    ensures test { result
-        ≡ list_all (condition_holds (grid_placed a.now) base.now index.now.table.now.rows) conditions.now }
-    ensures met { result ≡ true → All (Meets (placement_of a.now) base.now index.now.table.now.rows) conditions.now }
+    ensures test { result ≡ list_all (subject_holds (grid_placed a.now) base.now) subjects.now }
+    ensures met { result ≡ true → All (SubjectMet (placement_of a.now) base.now) subjects.now }
 {
-    all_hold(conditions, index, base, &placed_at(a))
+    all_hold(subjects, base, &placed_at(a))
 }

@@ -7,6 +7,7 @@ mod extent;
 mod holding;
 mod laws;
 mod placed;
+mod subject;
 mod values;
 mod view;
 
@@ -18,5 +19,6 @@ pub use extent::{Extremes, extremes_of};
 pub use holding::{condition_holds, holds};
 pub use laws::tests_are_sound;
 pub use placed::{Placed, placed_at};
+pub use subject::Subject;
 pub use values::value;
 pub use view::View;

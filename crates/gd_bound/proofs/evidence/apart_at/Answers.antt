@@ -10,8 +10,8 @@ use Rattle.gd_bound.proofs.evidence.apart_at.Goals as goal
 
 pub returns : goal.returns
 returns c =
-    let f : ℕ → Ends = ends_by (placed_ends c.args.view.now.placed.now) c.args.view.now.base.now c.args.view.now.condition.now c.args.view.now.index.now.table.now.rows in
-    let s : Surface = c.args.view.now.condition.now.surface in
+    let f : ℕ → Ends = ends_by (placed_ends c.args.view.now.placed.now) c.args.view.now.base.now c.args.view.now.subject.now.condition c.args.view.now.subject.now.index.now.table.now.rows in
+    let s : Surface = c.args.view.now.subject.now.condition.surface in
     let w : FitsSigned w64 c.args.t = search rules in
     let u : ends c.value.result ≡ f (c.args.a - 1) = search rules in
     let v : ends c.value-2.result ≡ f (c.args.b - 1) = search rules in

@@ -11,21 +11,21 @@ use Rattle.gd_bound.proofs.evidence.pair_refutes.Goals as goal
 
 pub returns-then-are_none : goal.returns-then-are_none
 returns-then-are_none c =
-    let f : ℕ → Ends = ends_by (placed_ends c.args.view.now.placed.now) c.args.view.now.base.now c.args.view.now.condition.now c.args.view.now.index.now.table.now.rows in
-    let ns : List ℕ = numbers_where (belongs c.args.view.now.condition.now) c.args.view.now.index.now.table.now.rows in
+    let f : ℕ → Ends = ends_by (placed_ends c.args.view.now.placed.now) c.args.view.now.base.now c.args.view.now.subject.now.condition c.args.view.now.subject.now.index.now.table.now.rows in
+    let ns : List ℕ = numbers_where (belongs c.args.view.now.subject.now.condition) c.args.view.now.subject.now.index.now.table.now.rows in
     let w : FitsSigned w64 c.in-Contact.hi = search rules in
-    contact-by c.args.view.now.condition.now c.args.view.now.index.now.table.now.rows f (map f ns) c.args.a c.args.b c.all_above.result c.args.view.now.condition.now.demand c.in-Contact.hi c.in-Contact.is (sym c.are_none.ensures ∙ c.if-are_none.true) (rw (to_z-of_z w64 c.in-Contact.hi w) at c.all_above.ensures)
+    contact-by c.args.view.now.subject.now.condition c.args.view.now.subject.now.index.now.table.now.rows f (map f ns) c.args.a c.args.b c.all_above.result c.args.view.now.subject.now.condition.demand c.in-Contact.hi c.in-Contact.is (sym c.are_none.ensures ∙ c.if-are_none.true) (rw (to_z-of_z w64 c.in-Contact.hi w) at c.all_above.ensures)
 
 pub returns-then-is_one_of_feature : goal.returns-then-is_one_of_feature
 returns-then-is_one_of_feature c =
-    let f : ℕ → Ends = ends_by (placed_ends c.args.view.now.placed.now) c.args.view.now.base.now c.args.view.now.condition.now c.args.view.now.index.now.table.now.rows in
-    let ns : List ℕ = numbers_where (belongs c.args.view.now.condition.now) c.args.view.now.index.now.table.now.rows in
+    let f : ℕ → Ends = ends_by (placed_ends c.args.view.now.placed.now) c.args.view.now.base.now c.args.view.now.subject.now.condition c.args.view.now.subject.now.index.now.table.now.rows in
+    let ns : List ℕ = numbers_where (belongs c.args.view.now.subject.now.condition) c.args.view.now.subject.now.index.now.table.now.rows in
     let w : FitsSigned w64 c.in-HugInner.slack = search rules in
-    inner-by c.args.view.now.condition.now c.args.view.now.index.now.table.now.rows f (map f ns) c.args.a c.args.b c.all_pass.result c.args.view.now.condition.now.demand c.in-HugInner.slack c.in-HugInner.is (sym c.is_one_of_feature.ensures.named ∙ c.if-is_one_of_feature.true) (rw (to_z-of_z w64 c.in-HugInner.slack w) at c.all_pass.ensures)
+    inner-by c.args.view.now.subject.now.condition c.args.view.now.subject.now.index.now.table.now.rows f (map f ns) c.args.a c.args.b c.all_pass.result c.args.view.now.subject.now.condition.demand c.in-HugInner.slack c.in-HugInner.is (sym c.is_one_of_feature.ensures.named ∙ c.if-is_one_of_feature.true) (rw (to_z-of_z w64 c.in-HugInner.slack w) at c.all_pass.ensures)
 
 pub returns-then-is_one_of_feature-2 : goal.returns-then-is_one_of_feature-2
 returns-then-is_one_of_feature-2 c =
-    let f : ℕ → Ends = ends_by (placed_ends c.args.view.now.placed.now) c.args.view.now.base.now c.args.view.now.condition.now c.args.view.now.index.now.table.now.rows in
-    let ns : List ℕ = numbers_where (belongs c.args.view.now.condition.now) c.args.view.now.index.now.table.now.rows in
+    let f : ℕ → Ends = ends_by (placed_ends c.args.view.now.placed.now) c.args.view.now.base.now c.args.view.now.subject.now.condition c.args.view.now.subject.now.index.now.table.now.rows in
+    let ns : List ℕ = numbers_where (belongs c.args.view.now.subject.now.condition) c.args.view.now.subject.now.index.now.table.now.rows in
     let w : FitsSigned w64 c.in-HugOuter.slack = search rules in
-    outer-by c.args.view.now.condition.now c.args.view.now.index.now.table.now.rows f (map f ns) c.args.a c.args.b c.passes_all.result c.args.view.now.condition.now.demand c.in-HugOuter.slack c.in-HugOuter.is (sym c.is_one_of_feature-in-HugOuter.ensures.named ∙ c.if-is_one_of_feature-2.true) (rw (to_z-of_z w64 c.in-HugOuter.slack w) at c.passes_all.ensures)
+    outer-by c.args.view.now.subject.now.condition c.args.view.now.subject.now.index.now.table.now.rows f (map f ns) c.args.a c.args.b c.passes_all.result c.args.view.now.subject.now.condition.demand c.in-HugOuter.slack c.in-HugOuter.is (sym c.is_one_of_feature-in-HugOuter.ensures.named ∙ c.if-is_one_of_feature-2.true) (rw (to_z-of_z w64 c.in-HugOuter.slack w) at c.passes_all.ensures)

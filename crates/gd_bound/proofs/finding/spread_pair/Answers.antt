@@ -16,19 +16,19 @@ use Rattle.gd_bound.proofs.finding.spread_pair.Goals as goal
 
 pub returns-in-None : goal.returns-in-None
 returns-in-None c =
-    let f : ℕ → Ends = ends_by (placed_ends c.args.view.now.placed.now) c.args.view.now.base.now c.args.view.now.condition.now c.args.view.now.index.now.table.now.rows in
-    let s : Surface = c.args.view.now.condition.now.surface in
-    let ns : List ℕ = numbers_where (belongs c.args.view.now.condition.now) c.args.view.now.index.now.table.now.rows in
-    let ms : List ℕ = numbers_where (is_of_feature c.args.view.now.condition.now) c.args.view.now.index.now.table.now.rows in
+    let f : ℕ → Ends = ends_by (placed_ends c.args.view.now.placed.now) c.args.view.now.base.now c.args.view.now.subject.now.condition c.args.view.now.subject.now.index.now.table.now.rows in
+    let s : Surface = c.args.view.now.subject.now.condition.surface in
+    let ns : List ℕ = numbers_where (belongs c.args.view.now.subject.now.condition) c.args.view.now.subject.now.index.now.table.now.rows in
+    let ms : List ℕ = numbers_where (is_of_feature c.args.view.now.subject.now.condition) c.args.view.now.subject.now.index.now.table.now.rows in
     let n : c.points-numbers.result.now ≡ [] = search rules in
     chosen.spread-empty s f ns ms c.args.t (sym c.points-numbers.ensures.all ∙ n)
 
 pub returns-then-passes_by_more : goal.returns-then-passes_by_more
 returns-then-passes_by_more c =
-    let f : ℕ → Ends = ends_by (placed_ends c.args.view.now.placed.now) c.args.view.now.base.now c.args.view.now.condition.now c.args.view.now.index.now.table.now.rows in
-    let s : Surface = c.args.view.now.condition.now.surface in
-    let ns : List ℕ = numbers_where (belongs c.args.view.now.condition.now) c.args.view.now.index.now.table.now.rows in
-    let ms : List ℕ = numbers_where (is_of_feature c.args.view.now.condition.now) c.args.view.now.index.now.table.now.rows in
+    let f : ℕ → Ends = ends_by (placed_ends c.args.view.now.placed.now) c.args.view.now.base.now c.args.view.now.subject.now.condition c.args.view.now.subject.now.index.now.table.now.rows in
+    let s : Surface = c.args.view.now.subject.now.condition.surface in
+    let ns : List ℕ = numbers_where (belongs c.args.view.now.subject.now.condition) c.args.view.now.subject.now.index.now.table.now.rows in
+    let ms : List ℕ = numbers_where (is_of_feature c.args.view.now.subject.now.condition) c.args.view.now.subject.now.index.now.table.now.rows in
     let x = c.in-Some.x in
     let a : AreExtremes (map f ns) (ends x.least) (ends x.greatest) = subst (λ z. AreExtremes (map f z) (ends x.least) (ends x.greatest)) c.points-numbers.ensures.all c.in-Some.ensures.some in
     let w : FitsSigned w64 c.args.t = search rules in
@@ -37,7 +37,7 @@ returns-then-passes_by_more c =
     let p : FitsSigned w128 c.low_threshold.result = search rules in
     let t : c.low_threshold.result ≡ low_threshold s c.in-Some.x.greatest.lo = rw (to_z-of_z w128 c.in-Some.x.greatest.lo u) at c.low_threshold.ensures in
     let k : c.first_far.result ≡ point_number (find (λ i. int_le (low_threshold s c.in-Some.x.greatest.lo) (f i).lo) ns) = rw (to_z-of_z w128 c.low_threshold.result p, t, c.points-numbers.ensures.all) at c.first_far.ensures in
-    let far : c.first_far.result ≡ point_number (first_highest (λ i. low_end s (f i).lo) ns) = k ∙ ap point_number (first-low-is s f ns c.in-Some.x.greatest.lo (signs c.args.view.now.placed.now c.args.view.now.base.now c.args.view.now.condition.now c.args.view.now.index.now.table.now.rows) a.greatest_lo) in
+    let far : c.first_far.result ≡ point_number (first_highest (λ i. low_end s (f i).lo) ns) = k ∙ ap point_number (first-low-is s f ns c.in-Some.x.greatest.lo (signs c.args.view.now.placed.now c.args.view.now.base.now c.args.view.now.subject.now.condition c.args.view.now.subject.now.index.now.table.now.rows) a.greatest_lo) in
     let v : FitsSigned w128 c.in-Some.x.least.hi = search rules in
     let q : FitsSigned w128 c.high_threshold.result = search rules in
     let r : c.high_threshold.result ≡ high_threshold s c.in-Some.x.least.hi = rw (to_z-of_z w128 c.in-Some.x.least.hi v) at c.high_threshold.ensures in
@@ -47,10 +47,10 @@ returns-then-passes_by_more c =
 
 pub returns-else-passes_by_more : goal.returns-else-passes_by_more
 returns-else-passes_by_more c =
-    let f : ℕ → Ends = ends_by (placed_ends c.args.view.now.placed.now) c.args.view.now.base.now c.args.view.now.condition.now c.args.view.now.index.now.table.now.rows in
-    let s : Surface = c.args.view.now.condition.now.surface in
-    let ns : List ℕ = numbers_where (belongs c.args.view.now.condition.now) c.args.view.now.index.now.table.now.rows in
-    let ms : List ℕ = numbers_where (is_of_feature c.args.view.now.condition.now) c.args.view.now.index.now.table.now.rows in
+    let f : ℕ → Ends = ends_by (placed_ends c.args.view.now.placed.now) c.args.view.now.base.now c.args.view.now.subject.now.condition c.args.view.now.subject.now.index.now.table.now.rows in
+    let s : Surface = c.args.view.now.subject.now.condition.surface in
+    let ns : List ℕ = numbers_where (belongs c.args.view.now.subject.now.condition) c.args.view.now.subject.now.index.now.table.now.rows in
+    let ms : List ℕ = numbers_where (is_of_feature c.args.view.now.subject.now.condition) c.args.view.now.subject.now.index.now.table.now.rows in
     let x = c.in-Some.x in
     let a : AreExtremes (map f ns) (ends x.least) (ends x.greatest) = subst (λ z. AreExtremes (map f z) (ends x.least) (ends x.greatest)) c.points-numbers.ensures.all c.in-Some.ensures.some in
     let w : FitsSigned w64 c.args.t = search rules in

@@ -11,7 +11,7 @@ use Rattle.gd_bound.proofs.threshold.first_near.Goals as goal
 
 pub returns-then-is_near : goal.returns-then-is_near
 returns-then-is_near c =
-    let f : ℕ → Ends = ends_by (placed_ends c.args.view.now.placed.now) c.args.view.now.base.now c.args.view.now.condition.now c.args.view.now.index.now.table.now.rows in
+    let f : ℕ → Ends = ends_by (placed_ends c.args.view.now.placed.now) c.args.view.now.base.now c.args.view.now.subject.now.condition c.args.view.now.subject.now.index.now.table.now.rows in
     let n : FitsSigned w128 c.args.threshold = search rules in
     let r = rw (to_z-of_z w128 c.args.threshold n) at c.is_near.ensures in
     let e : c.is_near.result ≡ int_le (f (get_or c.args.numbers.now c.loop-at.at 0)).hi c.args.threshold = search rules in
@@ -20,13 +20,13 @@ returns-then-is_near c =
 
 pub loop-at-preserved : goal.loop-at-preserved
 loop-at-preserved c =
-    let f : ℕ → Ends = ends_by (placed_ends c.args.view.now.placed.now) c.args.view.now.base.now c.args.view.now.condition.now c.args.view.now.index.now.table.now.rows in
+    let f : ℕ → Ends = ends_by (placed_ends c.args.view.now.placed.now) c.args.view.now.base.now c.args.view.now.subject.now.condition c.args.view.now.subject.now.index.now.table.now.rows in
     let t : ℤ = to_z w128 (of_z w128 c.args.threshold) in
     let e : c.is_near.result ≡ int_le (f (get_or c.args.numbers.now c.loop-at.at 0)).hi t = search rules in
     record { none = below-more (λ j. int_le (f (get_or c.args.numbers.now j 0)).hi t ≡ false) c.loop-at.at c.loop-at.invariant.none (sym e ∙ c.if-is_near.false) }
 
 pub returns : goal.returns
 returns c =
-    let f : ℕ → Ends = ends_by (placed_ends c.args.view.now.placed.now) c.args.view.now.base.now c.args.view.now.condition.now c.args.view.now.index.now.table.now.rows in
+    let f : ℕ → Ends = ends_by (placed_ends c.args.view.now.placed.now) c.args.view.now.base.now c.args.view.now.subject.now.condition c.args.view.now.subject.now.index.now.table.now.rows in
     let n : FitsSigned w128 c.args.threshold = search rules in
     number-nowhere (λ i. int_le (f i).hi c.args.threshold) c.args.numbers.now c.loop-at.at (omega (arith, c.loop-at-test.false, c.loop-at.auto.at-end)) (rw (to_z-of_z w128 c.args.threshold n) at c.loop-at.invariant.none)

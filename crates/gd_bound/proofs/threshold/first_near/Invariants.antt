@@ -6,5 +6,5 @@ use Rattle.gd_bound.proofs.threshold.first_near.Given as goal
 
 abbrev pub invariant-loop-at : goal.invariant-loop-at
 invariant-loop-at l = record {
-  none : (j : ℕ) → j < l.at → int_le (ends_by (placed_ends l.view.placed.now) l.view.base.now l.view.condition.now l.view.index.now.table.now.rows (get_or l.numbers j 0)).hi l.fn.threshold ≡ false;
+  none : (j : ℕ) → j < l.at → int_le (ends_by (placed_ends l.view.placed.now) l.view.base.now l.view.subject.now.condition l.view.subject.now.index.now.table.now.rows (get_or l.numbers j 0)).hi l.fn.threshold ≡ false;
 }

@@ -13,10 +13,10 @@ use Rattle.gd_zone.proofs.holding.all_within.Goals as goal
 
 pub returns-then-not-is_within : goal.returns-then-not-is_within
 returns-then-not-is_within c =
-    let f : ℕ → Ends = ends_by (placed_ends c.args.view.now.placed.now) c.args.view.now.base.now c.args.view.now.condition.now c.args.view.now.index.now.table.now.rows in
-    let s : Surface = c.args.view.now.condition.now.surface in
-    let ns : List ℕ = numbers_where (belongs c.args.view.now.condition.now) c.args.view.now.index.now.table.now.rows in
-    let ms : List ℕ = numbers_where (is_of_feature c.args.view.now.condition.now) c.args.view.now.index.now.table.now.rows in
+    let f : ℕ → Ends = ends_by (placed_ends c.args.view.now.placed.now) c.args.view.now.base.now c.args.view.now.subject.now.condition c.args.view.now.subject.now.index.now.table.now.rows in
+    let s : Surface = c.args.view.now.subject.now.condition.surface in
+    let ns : List ℕ = numbers_where (belongs c.args.view.now.subject.now.condition) c.args.view.now.subject.now.index.now.table.now.rows in
+    let ms : List ℕ = numbers_where (is_of_feature c.args.view.now.subject.now.condition) c.args.view.now.subject.now.index.now.table.now.rows in
     let e : ends c.value-value.result ≡ f (get_or c.points-numbers.result.now c.loop-at.at 0) = search rules in
     let h : value_within s c.args.lo c.args.hi (f (get_or c.points-numbers.result.now c.loop-at.at 0)) ≡ false = sym (ap (value_within s c.args.lo c.args.hi) e) ∙ sym c.is_within.ensures ∙ c.if-not-is_within.true in
     subst (λ z. false ≡ surface_holds s (Within c.args.lo c.args.hi) (map f z) (map f ms)) c.points-numbers.ensures.all
@@ -24,20 +24,20 @@ returns-then-not-is_within c =
 
 pub loop-at-preserved : goal.loop-at-preserved
 loop-at-preserved c =
-    let f : ℕ → Ends = ends_by (placed_ends c.args.view.now.placed.now) c.args.view.now.base.now c.args.view.now.condition.now c.args.view.now.index.now.table.now.rows in
-    let s : Surface = c.args.view.now.condition.now.surface in
-    let ns : List ℕ = numbers_where (belongs c.args.view.now.condition.now) c.args.view.now.index.now.table.now.rows in
-    let ms : List ℕ = numbers_where (is_of_feature c.args.view.now.condition.now) c.args.view.now.index.now.table.now.rows in
+    let f : ℕ → Ends = ends_by (placed_ends c.args.view.now.placed.now) c.args.view.now.base.now c.args.view.now.subject.now.condition c.args.view.now.subject.now.index.now.table.now.rows in
+    let s : Surface = c.args.view.now.subject.now.condition.surface in
+    let ns : List ℕ = numbers_where (belongs c.args.view.now.subject.now.condition) c.args.view.now.subject.now.index.now.table.now.rows in
+    let ms : List ℕ = numbers_where (is_of_feature c.args.view.now.subject.now.condition) c.args.view.now.subject.now.index.now.table.now.rows in
     let e : ends c.value-value.result ≡ f (get_or c.points-numbers.result.now c.loop-at.at 0) = search rules in
     let h : value_within s c.args.lo c.args.hi (f (get_or c.points-numbers.result.now c.loop-at.at 0)) ≡ true = sym (ap (value_within s c.args.lo c.args.hi) e) ∙ sym c.is_within.ensures ∙ c.if-not-is_within.false in
     record { within = below-more (λ j. value_within s c.args.lo c.args.hi (f (get_or c.points-numbers.result.now j 0)) ≡ true) c.loop-at.at c.loop-at.invariant.within h }
 
 pub returns : goal.returns
 returns c =
-    let f : ℕ → Ends = ends_by (placed_ends c.args.view.now.placed.now) c.args.view.now.base.now c.args.view.now.condition.now c.args.view.now.index.now.table.now.rows in
-    let s : Surface = c.args.view.now.condition.now.surface in
-    let ns : List ℕ = numbers_where (belongs c.args.view.now.condition.now) c.args.view.now.index.now.table.now.rows in
-    let ms : List ℕ = numbers_where (is_of_feature c.args.view.now.condition.now) c.args.view.now.index.now.table.now.rows in
+    let f : ℕ → Ends = ends_by (placed_ends c.args.view.now.placed.now) c.args.view.now.base.now c.args.view.now.subject.now.condition c.args.view.now.subject.now.index.now.table.now.rows in
+    let s : Surface = c.args.view.now.subject.now.condition.surface in
+    let ns : List ℕ = numbers_where (belongs c.args.view.now.subject.now.condition) c.args.view.now.subject.now.index.now.table.now.rows in
+    let ms : List ℕ = numbers_where (is_of_feature c.args.view.now.subject.now.condition) c.args.view.now.subject.now.index.now.table.now.rows in
     let end : c.loop-at.at ≡ length c.points-numbers.result.now = omega (arith, c.loop-at-test.false, c.loop-at.auto.at-end) in
     subst (λ z. true ≡ surface_holds s (Within c.args.lo c.args.hi) (map f z) (map f ms)) c.points-numbers.ensures.all
     (within-all s c.args.lo c.args.hi f c.points-numbers.result.now (map f ms) (λ j l. c.loop-at.invariant.within j (omega (arith, l, end))))

@@ -5,5 +5,5 @@ use Rattle.gd_zone.proofs.holding.all_within.Given as goal
 
 abbrev pub invariant-loop-at : goal.invariant-loop-at
 invariant-loop-at l = record {
-  within : (j : ℕ) → j < l.at → value_within l.view.condition.now.surface l.lo l.hi (ends_by (placed_ends l.view.placed.now) l.view.base.now l.view.condition.now l.view.index.now.table.now.rows (get_or l.numbers j 0)) ≡ true;
+  within : (j : ℕ) → j < l.at → value_within l.view.subject.now.condition.surface l.lo l.hi (ends_by (placed_ends l.view.placed.now) l.view.base.now l.view.subject.now.condition l.view.subject.now.index.now.table.now.rows (get_or l.numbers j 0)) ≡ true;
 }

@@ -13,19 +13,19 @@ use Rattle.gd_zone.proofs.holding.inner_holds.Goals as goal
 
 pub returns-in-None-default : goal.returns-in-None-default
 returns-in-None-default c =
-    let f : ℕ → Ends = ends_by (placed_ends c.args.view.now.placed.now) c.args.view.now.base.now c.args.view.now.condition.now c.args.view.now.index.now.table.now.rows in
-    let s : Surface = c.args.view.now.condition.now.surface in
-    let ns : List ℕ = numbers_where (belongs c.args.view.now.condition.now) c.args.view.now.index.now.table.now.rows in
-    let ms : List ℕ = numbers_where (is_of_feature c.args.view.now.condition.now) c.args.view.now.index.now.table.now.rows in
+    let f : ℕ → Ends = ends_by (placed_ends c.args.view.now.placed.now) c.args.view.now.base.now c.args.view.now.subject.now.condition c.args.view.now.subject.now.index.now.table.now.rows in
+    let s : Surface = c.args.view.now.subject.now.condition.surface in
+    let ns : List ℕ = numbers_where (belongs c.args.view.now.subject.now.condition) c.args.view.now.subject.now.index.now.table.now.rows in
+    let ms : List ℕ = numbers_where (is_of_feature c.args.view.now.subject.now.condition) c.args.view.now.subject.now.index.now.table.now.rows in
     let n : c.points.result.now ≡ [] = search rules in
     inner-of-none s c.args.slack c.requires.pair (map f ns) (map f ms) (ap (map f) (sym c.points.ensures.all ∙ n))
 
 pub returns-in-Some-None : goal.returns-in-Some-None
 returns-in-Some-None c =
-    let f : ℕ → Ends = ends_by (placed_ends c.args.view.now.placed.now) c.args.view.now.base.now c.args.view.now.condition.now c.args.view.now.index.now.table.now.rows in
-    let s : Surface = c.args.view.now.condition.now.surface in
-    let ns : List ℕ = numbers_where (belongs c.args.view.now.condition.now) c.args.view.now.index.now.table.now.rows in
-    let ms : List ℕ = numbers_where (is_of_feature c.args.view.now.condition.now) c.args.view.now.index.now.table.now.rows in
+    let f : ℕ → Ends = ends_by (placed_ends c.args.view.now.placed.now) c.args.view.now.base.now c.args.view.now.subject.now.condition c.args.view.now.subject.now.index.now.table.now.rows in
+    let s : Surface = c.args.view.now.subject.now.condition.surface in
+    let ns : List ℕ = numbers_where (belongs c.args.view.now.subject.now.condition) c.args.view.now.subject.now.index.now.table.now.rows in
+    let ms : List ℕ = numbers_where (is_of_feature c.args.view.now.subject.now.condition) c.args.view.now.subject.now.index.now.table.now.rows in
     let n : c.feature.result.now ≡ [] = search rules in
     let x = c.in-Some-None.field-0-0 in
     let h : AreExtremes (map f c.points.result.now) (ends x.least) (ends x.greatest) = rw c.in-Some-None.is-0 at c.extremes_of.ensures.some in
@@ -34,10 +34,10 @@ returns-in-Some-None c =
 
 pub returns-in-Some-Some : goal.returns-in-Some-Some
 returns-in-Some-Some c =
-    let f : ℕ → Ends = ends_by (placed_ends c.args.view.now.placed.now) c.args.view.now.base.now c.args.view.now.condition.now c.args.view.now.index.now.table.now.rows in
-    let s : Surface = c.args.view.now.condition.now.surface in
-    let ns : List ℕ = numbers_where (belongs c.args.view.now.condition.now) c.args.view.now.index.now.table.now.rows in
-    let ms : List ℕ = numbers_where (is_of_feature c.args.view.now.condition.now) c.args.view.now.index.now.table.now.rows in
+    let f : ℕ → Ends = ends_by (placed_ends c.args.view.now.placed.now) c.args.view.now.base.now c.args.view.now.subject.now.condition c.args.view.now.subject.now.index.now.table.now.rows in
+    let s : Surface = c.args.view.now.subject.now.condition.surface in
+    let ns : List ℕ = numbers_where (belongs c.args.view.now.subject.now.condition) c.args.view.now.subject.now.index.now.table.now.rows in
+    let ms : List ℕ = numbers_where (is_of_feature c.args.view.now.subject.now.condition) c.args.view.now.subject.now.index.now.table.now.rows in
     let x = c.in-Some-Some.group in
     let y = c.in-Some-Some.all in
     let u : FitsSigned w128 c.in-Some-Some.group.least.hi = search rules in

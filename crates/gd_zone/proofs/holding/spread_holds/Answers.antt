@@ -13,19 +13,19 @@ use Rattle.gd_zone.proofs.holding.spread_holds.Goals as goal
 
 pub returns-in-None : goal.returns-in-None
 returns-in-None c =
-    let f : ℕ → Ends = ends_by (placed_ends c.args.view.now.placed.now) c.args.view.now.base.now c.args.view.now.condition.now c.args.view.now.index.now.table.now.rows in
-    let s : Surface = c.args.view.now.condition.now.surface in
-    let ns : List ℕ = numbers_where (belongs c.args.view.now.condition.now) c.args.view.now.index.now.table.now.rows in
-    let ms : List ℕ = numbers_where (is_of_feature c.args.view.now.condition.now) c.args.view.now.index.now.table.now.rows in
+    let f : ℕ → Ends = ends_by (placed_ends c.args.view.now.placed.now) c.args.view.now.base.now c.args.view.now.subject.now.condition c.args.view.now.subject.now.index.now.table.now.rows in
+    let s : Surface = c.args.view.now.subject.now.condition.surface in
+    let ns : List ℕ = numbers_where (belongs c.args.view.now.subject.now.condition) c.args.view.now.subject.now.index.now.table.now.rows in
+    let ms : List ℕ = numbers_where (is_of_feature c.args.view.now.subject.now.condition) c.args.view.now.subject.now.index.now.table.now.rows in
     let n : c.points.result.now ≡ [] = search rules in
     spread-of-none s c.args.t (map f ns) (map f ms) (ap (map f) (sym c.points.ensures.all ∙ n))
 
 pub returns-in-Some : goal.returns-in-Some
 returns-in-Some c =
-    let f : ℕ → Ends = ends_by (placed_ends c.args.view.now.placed.now) c.args.view.now.base.now c.args.view.now.condition.now c.args.view.now.index.now.table.now.rows in
-    let s : Surface = c.args.view.now.condition.now.surface in
-    let ns : List ℕ = numbers_where (belongs c.args.view.now.condition.now) c.args.view.now.index.now.table.now.rows in
-    let ms : List ℕ = numbers_where (is_of_feature c.args.view.now.condition.now) c.args.view.now.index.now.table.now.rows in
+    let f : ℕ → Ends = ends_by (placed_ends c.args.view.now.placed.now) c.args.view.now.base.now c.args.view.now.subject.now.condition c.args.view.now.subject.now.index.now.table.now.rows in
+    let s : Surface = c.args.view.now.subject.now.condition.surface in
+    let ns : List ℕ = numbers_where (belongs c.args.view.now.subject.now.condition) c.args.view.now.subject.now.index.now.table.now.rows in
+    let ms : List ℕ = numbers_where (is_of_feature c.args.view.now.subject.now.condition) c.args.view.now.subject.now.index.now.table.now.rows in
     let x = c.in-Some.x in
     let u : FitsSigned w128 c.in-Some.x.greatest.hi = search rules in
     let v : FitsSigned w128 c.in-Some.x.least.lo = search rules in
