@@ -1,0 +1,5 @@
+pub mod Fits
+pub mod Laws
+pub mod Meant
+pub mod Props
+pub mod Tests

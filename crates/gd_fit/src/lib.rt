@@ -1,0 +1,12 @@
+//! A group of conditions as a task: is there a placement at which all of them hold?
+#![tactic(auto)]
+
+mod boxes;
+mod evidence;
+mod laws;
+mod task;
+#[cfg(test)]
+mod tests;
+
+pub use laws::fits_are_meant;
+pub use task::{PlacementTask, placement_task};
