@@ -33,7 +33,7 @@ fn coordinate(draws: &mut Draws) -> i64
 
 /// One entry of a direction that isn't known exactly, in 2^-30.
 #[derive(Clone, Copy)]
-struct Ratio {
+pub struct Ratio {
     lo: i64,
     hi: i64,
     ghost ordered: { lo ≤ℤ hi },
@@ -41,7 +41,7 @@ struct Ratio {
     ghost small_hi: { unsigned_abs hi ≤ 2 ^ 30 },
 }
 
-fn draw_ratio(draws: &mut Draws) -> Ratio {
+pub fn draw_ratio(draws: &mut Draws) -> Ratio {
     let lo = draws.small() % 2_146_435_072 - 1_073_741_824;
     let hi = lo + draws.small() % 1_048_576;
     Ratio { lo, hi }
@@ -49,13 +49,13 @@ fn draw_ratio(draws: &mut Draws) -> Ratio {
 
 /// The same entry in 128 bits.
 #[derive(Clone, Copy)]
-struct WideRatio {
-    it: Iv,
+pub struct WideRatio {
+    pub it: Iv,
     ghost small_lo: { unsigned_abs it.lo ≤ 2 ^ 30 },
     ghost small_hi: { unsigned_abs it.hi ≤ 2 ^ 30 },
 }
 
-fn widened(n: Ratio) -> WideRatio {
+pub fn widened(n: Ratio) -> WideRatio {
     WideRatio {
         it: between(i128::from(n.lo), i128::from(n.hi)),
     }

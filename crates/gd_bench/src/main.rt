@@ -1,14 +1,18 @@
 // The program: it repeats one call over drawn numbers, or the reading of a frame file, and prints a checksum of the answers.
 #![tactic(auto)]
 
+mod conditions;
 mod directions;
 mod draws;
 mod frames;
 mod rows;
 
+use conditions::{Place, Turn, condition, judge_all, members_text};
 use directions::{Direction, Point, WideDirection};
 use draws::{Drawn, draw_all};
 use frames::{frames_text, points_text, read_once, table_of};
+use gd_points::PointIndex;
+use gd_zone::Subject;
 use rows::{Factors, Fraction, Radicand, Row, Sides, Square};
 use std::process::ExitCode;
 use std::time::Instant;
@@ -67,6 +71,27 @@ fn measure_frames(rt: &HostRuntime, turns: u32) -> io::Result<Option<Measured>> 
     Ok(Some(Measured { sum, nanoseconds }))
 }
 
+/// The turns of bounding the condition of a name over 256 cells, or `None` where none has that name.
+fn measure_condition(rt: &HostRuntime, name: &str, turns: u32) -> io::Result<Option<Measured>> {
+    let alloc = rt.alloc();
+    let text = members_text(alloc)?;
+    let (Some(condition), Some(table)) = (condition(name), table_of(alloc, text.as_str())) else {
+        return Ok(None);
+    };
+    let Ok(index) = PointIndex::of(alloc, &table) else {
+        return Ok(None);
+    };
+    let subject = Subject::of(&condition, &index);
+    let places: Vec<Place> = draw_all(alloc, CALLS)?;
+    let start = Instant::now(rt)?;
+    let mut sum = 0;
+    for _ in 0..turns {
+        sum = judge_all(&subject, &places, sum);
+    }
+    let nanoseconds = start.elapsed(rt)?.as_nanos();
+    Ok(Some(Measured { sum, nanoseconds }))
+}
+
 /// The kernel of a name, or `None` where none has it.
 fn named(rt: &HostRuntime, name: &str, turns: u32) -> io::Result<Option<Measured>> {
     Ok(Some(match name {
@@ -77,8 +102,9 @@ fn named(rt: &HostRuntime, name: &str, turns: u32) -> io::Result<Option<Measured
         "cmp_root" => measure::<Sides>(rt, turns)?,
         "dot_128" => measure::<WideDirection>(rt, turns)?,
         "dot_64" => measure::<Direction>(rt, turns)?,
+        "matrix" => measure::<Turn>(rt, turns)?,
         "frames" => return measure_frames(rt, turns),
-        _ => return Ok(None),
+        _ => return measure_condition(rt, name, turns),
     }))
 }
 
