@@ -11,6 +11,6 @@ loop-at-init c =
       met = λ feature group h. ap (λ ks. list_any (nat_eq (feature * 1000 + group)) ks) e.met;
       sections = λ feature. ap (λ xs. get_or xs feature 0) e.sections ∙ counts_none 0 _ feature;
       contacts = λ feature. ap (λ xs. get_or xs feature 0) e.contacts ∙ counts_none 1 _ feature;
-      has_sections = ap length e.sections ∙ length-replicate _ _ ∙ c.features.ensures;
-      has_contacts = ap length e.contacts ∙ length-replicate _ _ ∙ c.features.ensures;
+      has_sections = ap length e.sections ∙ length-replicate _ _ ∙ c.features.ensures.count;
+      has_contacts = ap length e.contacts ∙ length-replicate _ _ ∙ c.features.ensures.count;
     }
