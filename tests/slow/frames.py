@@ -3,6 +3,8 @@ import collections
 import re
 import tomllib
 
+from slow.points import BYTE_ORDER_MARK
+
 SHAPES = ("plane", "hole", "pin", "axis", "sphere")
 ROUND = ("hole", "pin", "sphere")
 FORMS = ("flatness", "straightness", "circularity", "cylindricity")
@@ -103,9 +105,12 @@ class Table:
 
 
 def parsed(text):
-    """The table of a TOML document in UTF-8 whose numbers fit 64 bits."""
+    """The table of a TOML document in UTF-8 whose numbers fit 64 bits. One byte order mark is passed over.
+
+    `tomllib` reads TOML 1.0. What 1.1 adds, a line end or a last comma in an inline table and some escapes, isn't read here.
+    """
     try:
-        found = tomllib.loads(text.decode())
+        found = tomllib.loads(text.removeprefix(BYTE_ORDER_MARK).decode())
     except (ValueError, RecursionError):
         raise Broken(20, 0, 0) from None
     waiting = [found]
