@@ -74,7 +74,8 @@ counts_size c h =
       reason_size c.reason,
     )
 
-body_size : (body : Body) → BodyFits body → length (flat_map line_text (body_lines body)) ≤ 265 + 35 * length (tree_of body)
+-- with 24 bytes for the line before them
+body_size : (body : Body) → BodyFits body → 24 + length (flat_map line_text (body_lines body)) ≤ most_bytes body
 body_size (Accept root at) h =
     omega (arith, length-append (line_text (codes "w" ∷ decimal root ∷ map signed_decimal at)) [], witness_size root at h)
 body_size (Reject tree) h = omega (arith, tree_size tree h.0)
@@ -145,9 +146,14 @@ texts_are_short c h =
       groups_size 1 c.groups (omega (arith, h.count)) h.groups,
     )
 
+most_by_tree : (body : Body) → most_bytes body ≤ 289 + 35 * length (tree_of body)
+most_by_tree (Accept root at) = omega arith
+most_by_tree (Reject tree) = omega arith
+most_by_tree (Open counts tree) = omega arith
+
 pub one_group_is_short : OneGroupIsShort
 one_group_is_short c body h one small =
-    omega (arith, texts_are_short c h, ap (sum_by most_bytes) one, sum_by-cons most_bytes body [], small)
+    omega (arith, texts_are_short c h, ap (sum_by most_bytes) one, sum_by-cons most_bytes body [], most_by_tree body, small)
 
 -- ---- lines
 lines_below : (lines : List (List (List ℕ))) → length lines ≤ length (flat_map line_text lines)

@@ -15,9 +15,11 @@ tree_of (Accept root at) = []
 tree_of (Reject tree) = tree
 tree_of (Open counts tree) = tree
 
--- no more bytes than these tell of a group
+-- no more bytes than these tell of a group: of its first line, and of its witness, or of its counts and its tree
 abbrev pub most_bytes : Body → ℕ
-most_bytes body = 300 + 35 * length (tree_of body)
+most_bytes (Accept root at) = 289
+most_bytes (Reject tree) = 24 + 35 * length tree
+most_bytes (Open counts tree) = 67 + 35 * length tree
 
 -- the text of a certificate in bounds is no longer than its groups allow
 abbrev pub TextsAreShort : Type 0

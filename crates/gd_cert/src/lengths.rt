@@ -1,7 +1,8 @@
 // Laws of how long texts are, one function a law, so that a caller's proof can name them. They do nothing when they run.
 ghost use Rattle.gd_cert.specs.Sizes.{GroupsLieWithin, KeptLinesLieWithin, LinesAreFew, OneGroupIsShort, TextsAreShort};
 
-/// The text of a certificate in bounds has at most 200 bytes, and at most 300 and 35 a line of its tree for each group.
+/// The text of a certificate in bounds has at most 200 bytes, and for each group 289 where it has a witness, else 67 and 35
+/// a line of its tree.
 pub fn show_texts_are_short()
     ensures { TextsAreShort }
 {}

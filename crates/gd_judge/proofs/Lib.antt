@@ -1,0 +1,4 @@
+pub mod Judging
+pub mod Leaves
+pub mod Meant
+pub mod Sizes

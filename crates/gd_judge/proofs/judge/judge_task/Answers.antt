@@ -1,0 +1,6 @@
+use Rattle.gd_judge.proofs.Leaves.{few_leaves}
+use Rattle.gd_judge.proofs.judge.judge_task.Goals as goal
+
+pub verdict_of_outcome-verdict-requires : goal.verdict_of_outcome-verdict-requires
+verdict_of_outcome-verdict-requires g c =
+    few_leaves (g.T.Task.questions c.args.task.now) (c.show_laws.ensures c.args.task.now).is_grid c.args.share c.requires c.in_ok-outcome.outcome c.in_ok-outcome.ensures.verdict
