@@ -9,3 +9,4 @@ pub mod Tables
 pub mod More
 pub mod Ordered
 pub mod ByNumber
+pub mod NextGroup

@@ -1,7 +1,7 @@
 -- The points of a feature, and of a feature and group, by their numbers. A point's number is the place of its row, from 0.
-use Rattle.std.specs.Prelude.{ℕ, ◌+◌, ◌*◌, ◌≡◌, ℤ, pos, Bool, false, List, Option, Some, None, get_or, length, slice_get}
+use Rattle.std.specs.Prelude.{ℕ, ◌+◌, ◌*◌, ◌<◌, ◌≡◌, ℤ, pos, Bool, false, List, Option, Some, None, get_or, length, slice_get}
 use Rattle.std.specs.Prelude.{filter, map, ◌==◌, ◌&&◌}
-use Rattle.std.specs.List.{range_with_len}
+use Rattle.std.specs.List.{All, list_any, range_with_len}
 use Rattle.std.specs.List.Sorted.{IsNonDecreasingBy}
 use Rattle.gd_points.specs.Columns.{AreColumns, label_of}
 use Rattle.gd_points.specs.declared.index.OrderBy.{OrderBy}
@@ -16,6 +16,10 @@ is_of feature row = row.feature == feature
 -- a row is of the feature, and of this group of it
 abbrev pub is_of_group : ℕ → ℕ → Row → Bool
 is_of_group feature group row = (row.feature == feature) && (row.group == group)
+
+-- some point of a feature has a group
+abbrev pub has_group : List Row → ℕ → ℕ → Bool
+has_group rows feature group = list_any (is_of_group feature group) rows
 
 abbrev pub passes : (Row → Bool) → Option Row → Bool
 passes test None = false
@@ -52,4 +56,5 @@ pub record IsOrdered (order : OrderBy) (labels : List Label) (numbers : List ℕ
 -- these are the numbers of all points in this order, and beside them the coordinates of the same points
 pub record IsInOrder (order : OrderBy) (rows : List Row) (numbers : List ℕ) (xs ys zs : List ℤ) : Type 0 where
   pub ordered : IsOrdered order (map label_of rows) numbers
+  pub below : All (λ i. i < length rows) numbers
   pub columns : AreColumns xs ys zs (map (row_at rows) numbers)

@@ -1,9 +1,9 @@
 // The points of a feature, found without a look at the whole table.
-ghost use Rattle.std.specs.Prelude.{◌≡◌, ◌<◌, ◌≤◌, ◌-◌, IfOk, drop, length, map, filter, get_or, pos, take, ◌==◌};
-ghost use Rattle.std.specs.List.{All, range_with_len};
+ghost use Rattle.std.specs.Prelude.{◌≡◌, ◌<◌, ◌≤◌, ◌-◌, ℕ, [], true, false, None, IfOk, IfSome, drop, length, map, filter, get_or, pos, take, ◌==◌};
+ghost use Rattle.std.specs.List.{All, Any, range_with_len};
 ghost use Rattle.gd_base.specs.Limits.{COORDINATE, GROUP, POINTS};
 ghost use Rattle.gd_points.specs.Columns.{AreColumns, label_of};
-ghost use Rattle.gd_points.specs.Index.{IsInOrder, IsOrdered, is_of, is_of_group, key_at, key_of, numbers_where, row_at};
+ghost use Rattle.gd_points.specs.Index.{IsInOrder, IsOrdered, has_group, is_of, is_of_group, key_at, key_of, numbers_where, row_at};
 ghost use Rattle.gd_points.specs.declared.index.OrderBy.TheVariants as by;
 ghost use Rattle.gd_vec.specs.Vector.{IsWithin};
 
@@ -116,6 +116,22 @@ fn columns_at(alloc: Global, table: &PointTable, numbers: &[u32]) -> Result<Colu
     Ok(ColumnLists { x, y, z })
 }
 
+// The feature and the group of the first point in an order whose key is at least this one, if there is one.
+fn first_from(order: OrderBy, labels: &[Label], numbers: &[u32], key: u64) -> Option<Label>
+    requires ordered { IsOrdered order labels.now numbers.now }
+    requires below { All (λ number. number < length labels.now) numbers.now }
+    ensures at { IfSome result (λ label. Any (λ l. l ≡ label) labels.now) }
+    ensures from { IfSome result (λ label. key ≤ key_of order label) }
+    ensures first { IfSome result (λ label. (k : ℕ) → key ≤ k → k < key_of order label
+        → filter (λ i. key_at order labels.now i == k) numbers.now ≡ []) }
+    ensures none { result ≡ None → (k : ℕ) → key ≤ k
+        → filter (λ i. key_at order labels.now i == k) numbers.now ≡ [] }
+{
+    let at = numbers.partition_point(|number| key_at(order, labels, *number) < key);
+    let number = numbers.get(at)?;
+    Some(labels[*number as usize])
+}
+
 // Where the points with a key stand, among those of all points.
 fn places_of(order: OrderBy, labels: &[Label], numbers: &[u32], key: u64) -> Span
     requires { IsOrdered order labels.now numbers.now }
@@ -215,6 +231,32 @@ impl<'a> PointIndex<'a> {
     {
         let key = key_of(OrderBy::Group, &Label { feature, group });
         self.by_group.with_key(OrderBy::Group, self.table, key)
+    }
+
+    /// The least group from a number on that the points of a feature have, found by halving. `None` where they have none.
+    pub fn next_group(&self, feature: u32, from: u32) -> Option<u32>
+        ensures from { IfSome result (λ next. from ≤ next) }
+        ensures within { IfSome result (λ next. next ≤ GROUP) }
+        ensures has { IfSome result (λ next. has_group self.now.table.now.rows feature next ≡ true) }
+        ensures least { IfSome result (λ next. (group : ℕ) → from ≤ group → group < next
+            → has_group self.now.table.now.rows feature group ≡ false) }
+        ensures none { result ≡ None → (group : ℕ) → from ≤ group
+            → has_group self.now.table.now.rows feature group ≡ false }
+    {
+        let numbers = self.by_group.numbers.as_slice();
+        let key = key_of(
+            OrderBy::Group,
+            &Label {
+                feature,
+                group: from,
+            },
+        );
+        let next = first_from(OrderBy::Group, self.table.labels(), numbers, key)?;
+        if next.feature == feature {
+            Some(next.group)
+        } else {
+            None
+        }
     }
 
     /// The numbers of the points of a feature, ascending. There are none where the table has no such feature.
