@@ -1,1 +1,2 @@
 mod KnownValues
+pub mod Listed

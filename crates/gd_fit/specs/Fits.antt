@@ -1,5 +1,5 @@
 -- What a group of conditions asks: a placement in range at which all of them are met at once.
-use Rattle.std.specs.Prelude.{ℕ, ℤ, pos, ◌≤◌, List, [], ◌∷◌, get_or, length, unsigned_abs}
+use Rattle.std.specs.Prelude.{ℕ, ℤ, pos, ◌≤◌, ◌<◌, List, [], ◌∷◌, get_or, length, unsigned_abs}
 use Rattle.std.specs.List.{All}
 use Rattle.gd_base.specs.Limits.{CONDITIONS, POINTS}
 use Rattle.gd_points.specs.declared.table.Row.{Row}
@@ -28,12 +28,12 @@ pub record IsFit (q : Asked) (p : Placement) : Type 0 where
   pub range : IsInRange q.ranges p
   pub meets : All (Meets p q.base q.rows) q.conditions
 
--- what a task may rest on
+-- what a task may rest on. The points are few where a condition speaks of them
 pub record IsAsked (q : Asked) : Type 0 where
   pub ranges : AreRanges q.ranges
   pub conditions : All IsCondition q.conditions
   pub few : length q.conditions ≤ CONDITIONS
-  pub points : length q.rows ≤ POINTS
+  pub points : 0 < length q.conditions → length q.rows ≤ POINTS
 
 -- ---- a placement as a list of whole numbers: four of its rotation, its scale, and three of its translation and of each
 -- offset

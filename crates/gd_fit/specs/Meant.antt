@@ -1,5 +1,5 @@
 -- What the answers of a group's task mean for placements.
-use Rattle.std.specs.Prelude.{ℕ, ◌≡◌, true, Some, List, ℤ}
+use Rattle.std.specs.Prelude.{◌≡◌, true, Some}
 use Rattle.gd_cells.specs.Grid.{IsCell}
 use Rattle.gd_cells.specs.declared.cell.Cell.{Cell}
 use Rattle.gd_cells.specs.declared.cell.Evidence.{Evidence}

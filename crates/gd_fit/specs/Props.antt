@@ -1,9 +1,12 @@
--- A condition is judged in one way at most: so a task can keep it as a fact.
+-- What a task keeps as facts has one proof at most.
 use Rattle.std.proofs.Props.{props}
-use Rattle.std.specs.List.{All}
+use mathlib.Core.List.{is_set}
 use Rattle.std.specs.Prelude.{List}
+use Rattle.gd_fit.specs.Subjects.{AreJudged, SpeakOf}
+use Rattle.gd_points.specs.declared.table.Row.{Row}
 use Rattle.gd_zone.specs.Conditions.{HasBounds, IsCondition, IsPair, IsSurface}
 use Rattle.gd_zone.specs.declared.condition.Condition.{Condition}
+use Rattle.gd_zone.specs.declared.subject.Subject.{Subject}
 use Rattle.gd_zone.specs.declared.condition.Demand.{Demand}
 use Rattle.gd_zone.specs.declared.condition.Demand.TheVariants.{Within, Spread, Contact, HugInner, HugOuter}
 use Rattle.gd_zone.specs.declared.condition.Surface.{Surface}
@@ -41,5 +44,11 @@ bounds_prop (HugOuter t) = Prim.hlevel props
 condition_prop : (c : Condition) → IsProp (IsCondition c)
 condition_prop c = Prim.hlevel (pair_prop, surface_prop, bounds_prop, props)
 
-pub are_conditions_prop : (cs : List Condition) → IsProp (All IsCondition cs)
-are_conditions_prop cs = Prim.hlevel (condition_prop, props)
+pub judged_prop : (subjects : List Subject) → IsProp (AreJudged subjects)
+judged_prop subjects = Prim.hlevel (condition_prop, props)
+
+rows_set : IsSet (List Row)
+rows_set = is_set (Prim.hlevel props)
+
+pub speak_prop : (rows : List Row) (subjects : List Subject) → IsProp (SpeakOf rows subjects)
+speak_prop rows subjects = Prim.hlevel (rows_set, props)

@@ -1,10 +1,11 @@
 // A group of conditions as a task over the cells of placements.
-ghost use Rattle.std.specs.Prelude.{◌≡◌, ◌≤◌, length};
+ghost use Rattle.std.specs.Prelude.{◌≡◌, ◌≤◌, IfOk, length};
 ghost use Rattle.std.specs.List.{All};
-ghost use Rattle.gd_base.specs.Limits.{CONDITIONS, COORDINATE, POINTS};
+ghost use Rattle.gd_base.specs.Limits.{CONDITIONS, COORDINATE};
 ghost use Rattle.gd_fit.specs.Fits.{IsFit, asked_of, numbers_of, placement_in};
-ghost use Rattle.gd_fit.specs.Laws.Task.{fit_laws};
-ghost use Rattle.gd_fit.specs.Props.{are_conditions_prop};
+ghost use Rattle.gd_fit.specs.Laws.Task.{are_asked, fit_laws};
+ghost use Rattle.gd_fit.specs.Props.{judged_prop, speak_prop};
+ghost use Rattle.gd_fit.specs.Subjects.{AreJudged, SpeakOf, conditions_of};
 ghost use Rattle.gd_fit.specs.Tests.{questions_of};
 ghost use Rattle.gd_quat.specs.Placements.{placement_of};
 ghost use Rattle.gd_turn.specs.Places.{assignment_at};
@@ -14,85 +15,92 @@ ghost use Rattle.gd_zone.specs.Conditions.{IsCondition};
 
 use crate::boxes::placed_in;
 use crate::evidence::{first_against, refutes_named};
+use gd_base::Memory;
 use gd_cells::{Cell, Evidence, Task, Witness};
-use gd_points::PointIndex;
+use gd_points::{PointIndex, PointTable};
 use gd_turn::{Ranges, centre_of, dims, finest_level, is_in_range, placement_at, roots, split};
 use gd_vec::V3;
-use gd_zone::{Condition, holds};
+use gd_zone::{Condition, Subject, holds};
+use std::alloc::{AllocError, Global};
 
 /// A group of conditions as a task: is there a placement in range at which all of them hold? `base` is the part's first
-/// point, in units, about which placements turn the part. Conditions are numbered from 1, and points are those of `index`.
-/// A witness is a root, three ratios in 2^-30, the translation and the offsets in fine units of 2^-16 unit.
+/// point, in units, about which placements turn the part. Conditions stand beside their points, which are those of `table`,
+/// and are numbered from 1. A witness is a root, three ratios in 2^-30, the translation and the offsets in fine units of
+/// 2^-16 unit.
 #[derive(Drop)]
 pub struct PlacementTask<'a> {
     pub ranges: Ranges,
     pub base: V3,
-    pub conditions: Vec<Condition>,
-    pub index: &'a PointIndex<'a>,
-    points: usize,
+    pub subjects: Vec<Subject<'a>>,
+    pub table: &'a PointTable,
     ghost ranged: { AreRanges ranges },
     ghost based: { IsWithin COORDINATE base },
-    ghost judged: { All IsCondition conditions.items } by { are_conditions_prop conditions.items },
-    ghost few: { length conditions.items ≤ CONDITIONS },
-    ghost few_points: { length index.now.table.now.rows ≤ POINTS },
+    ghost judged: { AreJudged subjects.items } by { judged_prop subjects.items },
+    ghost of_table: { SpeakOf table.now.rows subjects.items } by { speak_prop table.now.rows subjects.items },
+    ghost few: { length subjects.items ≤ CONDITIONS },
 }
 
-// How many points an index has. They are few enough to be numbered in a certificate.
-fn len_of(index: &PointIndex<'_>) -> usize
-    ensures few { length index.now.table.now.rows ≤ POINTS }
+// The conditions beside their points, which are found once.
+fn subjects_of<'a>(
+    alloc: Global,
+    conditions: &[Condition],
+    index: &'a PointIndex<'a>,
+) -> Result<Vec<Subject<'a>>, AllocError>
+    requires conditions { All IsCondition conditions.now }
+    ensures conditions { IfOk result (λ v. conditions_of v.items ≡ conditions.now) }
+    ensures count { IfOk result (λ v. length v.items ≡ length conditions.now) }
+    ensures judged { IfOk result (λ v. AreJudged v.items) }
+    ensures of_table { IfOk result (λ v. SpeakOf index.now.table.now.rows v.items) }
 {
-    index.table().len()
+    let mut subjects = Vec::with_capacity(alloc, conditions.len())?;
+    for at in 0..conditions.len() {
+        subjects.push(Subject::of(&conditions[at], index))?;
+    }
+    Ok(subjects)
+}
+
+/// The task of a group of conditions on the points of an index. Each condition's points are found once, here. `base` is the
+/// part's first point, in units.
+pub fn placement_task<'a>(
+    alloc: Global,
+    ranges: Ranges,
+    base: V3,
+    conditions: &[Condition],
+    index: &'a PointIndex<'a>,
+) -> Result<PlacementTask<'a>, Memory>
+    requires ranges { AreRanges ranges }
+    requires base { IsWithin COORDINATE base }
+    requires conditions { All IsCondition conditions.now }
+    requires few { length conditions.now ≤ CONDITIONS }
+    ensures ranges { IfOk result (λ task. task.ranges ≡ ranges) }
+    ensures base { IfOk result (λ task. task.base ≡ base) }
+    ensures conditions { IfOk result (λ task. conditions_of task.subjects.items ≡ conditions.now) }
+    ensures rows { IfOk result (λ task. task.table.now.rows ≡ index.now.table.now.rows) }
+{
+    let subjects = subjects_of(alloc, conditions, index)?;
+    Ok(PlacementTask {
+        ranges,
+        base,
+        subjects,
+        table: index.table(),
+    })
 }
 
 // How many points the conditions speak of, each counted anew in each condition.
-fn count_points(conditions: &[Condition], index: &PointIndex<'_>) -> usize {
+fn count_points(subjects: &[Subject<'_>]) -> usize {
     let mut count: usize = 0;
-    for condition in conditions {
-        let points = match condition.group {
-            None => index.rows_of(condition.feature),
-            Some(group) => index.rows_of_group(condition.feature, group),
-        };
-        count = count.saturating_add(points.len());
+    for subject in subjects {
+        count = count.saturating_add(subject.points().len());
     }
     count
 }
 
-/// The task of a group of conditions on the points of an index. `base` is the part's first point, in units.
-pub fn placement_task<'a>(
-    ranges: Ranges,
-    base: V3,
-    conditions: Vec<Condition>,
-    index: &'a PointIndex<'a>,
-) -> PlacementTask<'a>
-    requires ranges { AreRanges ranges }
-    requires base { IsWithin COORDINATE base }
-    requires conditions { All IsCondition conditions.items }
-    requires few { length conditions.items ≤ CONDITIONS }
-    ensures ranges { result.ranges ≡ ranges }
-    ensures base { result.base ≡ base }
-    ensures conditions { result.conditions.items ≡ conditions.items }
-    ensures rows { result.index.now.table.now.rows ≡ index.now.table.now.rows }
-{
-    let points = if len_of(index) == 0 {
-        0
-    } else {
-        count_points(&conditions, index)
-    };
-    PlacementTask {
-        ranges,
-        base,
-        conditions,
-        index,
-        points,
-    }
-}
-
 impl<'a> Task for PlacementTask<'a> {
     ghost questions = { λ s. questions_of
-        (asked_of s.ranges s.base s.index.now.table.now.rows s.conditions.items) };
+        (asked_of s.ranges s.base s.table.now.rows (conditions_of s.subjects.items)) };
 
     ghost feasible = { λ s a. IsFit
-        (asked_of s.ranges s.base s.index.now.table.now.rows s.conditions.items) (placement_in a) };
+        (asked_of s.ranges s.base s.table.now.rows (conditions_of s.subjects.items)) (placement_in a) };
 
     ghost inside = { λ s a c. LiesIn s.ranges c (placement_in a) };
 
@@ -115,7 +123,7 @@ impl<'a> Task for PlacementTask<'a> {
     }
 
     fn points(&self) -> usize {
-        self.points
+        count_points(&self.subjects)
     }
 
     fn split(&self, cell: &Cell) -> (Cell, Cell) {
@@ -123,13 +131,11 @@ impl<'a> Task for PlacementTask<'a> {
     }
 
     fn refutes(&self, cell: &Cell) -> Option<Evidence> {
-        let placed = placed_in(&self.ranges, cell);
-        first_against(&self.conditions, self.index, &self.base, &placed)
+        first_against(self, &placed_in(&self.ranges, cell))
     }
 
     fn refutes_at(&self, cell: &Cell, evidence: &Evidence) -> bool {
-        let placed = placed_in(&self.ranges, cell);
-        refutes_named(&self.conditions, self.index, &self.base, &placed, evidence)
+        refutes_named(self, &placed_in(&self.ranges, cell), evidence)
     }
 
     fn centre(&self, cell: &Cell) -> Witness {
@@ -142,10 +148,10 @@ impl<'a> Task for PlacementTask<'a> {
 
     fn holds(&self, witness: &Witness) -> bool {
         let placement = placement_at(&self.ranges, witness);
-        holds(&self.conditions, self.index, &self.base, &placement)
+        holds(&self.subjects, &self.base, &placement)
     }
 
     ghost laws = { λ t. fit_laws
-        (asked_of t.ranges t.base t.index.now.table.now.rows t.conditions.items)
-        (record { ranges = t.ranged; conditions = t.judged; few = t.few; points = t.few_points; }) };
+        (asked_of t.ranges t.base t.table.now.rows (conditions_of t.subjects.items))
+        (are_asked t.ranges t.base t.table.now.rows t.subjects.items t.ranged t.judged t.of_table t.few) };
 }

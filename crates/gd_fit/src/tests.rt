@@ -25,10 +25,12 @@ const BASE: V3 = V3 {
 };
 
 // A plate of 200 mm by 100 mm. The greatest distance from a hole's axis is that of h4: 50 units.
-const PLATE: &[u8] = b"feature,group,x,y,z\nbase,1,100000,100000,0\nbase,2,1900000,100000,4\nbase,3,1000000,900000,6\nback,1,300000,2,50000\nback,2,1700000,0,50000\nleft,1,3,500000,50000\nh1,0,200020,199990,0\nh1,0,200030,199990,100000\nh2,0,1799990,200015,0\nh2,0,1799990,200020,100000\nh3,0,200000,800040,0\nh3,0,200000,800040,100000\nh4,0,1800050,800000,0\nh4,0,1800050,800000,100000\n";
+const PLATE: &[u8] =
+    b"feature,group,x,y,z\nbase,1,100000,100000,0\nbase,2,1900000,100000,4\nbase,3,1000000,900000,6\nback,1,300000,2,50000\nback,2,1700000,0,50000\nleft,1,3,500000,50000\nh1,0,200020,199990,0\nh1,0,200030,199990,100000\nh2,0,1799990,200015,0\nh2,0,1799990,200020,100000\nh3,0,200000,800040,0\nh3,0,200000,800040,100000\nh4,0,1800050,800000,0\nh4,0,1800050,800000,100000\n";
 
 // The same with h4 500 units from its axis.
-const MOVED: &[u8] = b"feature,group,x,y,z\nbase,1,100000,100000,0\nbase,2,1900000,100000,4\nbase,3,1000000,900000,6\nback,1,300000,2,50000\nback,2,1700000,0,50000\nleft,1,3,500000,50000\nh1,0,200020,199990,0\nh1,0,200030,199990,100000\nh2,0,1799990,200015,0\nh2,0,1799990,200020,100000\nh3,0,200000,800040,0\nh3,0,200000,800040,100000\nh4,0,1800500,800000,0\nh4,0,1800500,800000,100000\n";
+const MOVED: &[u8] =
+    b"feature,group,x,y,z\nbase,1,100000,100000,0\nbase,2,1900000,100000,4\nbase,3,1000000,900000,6\nback,1,300000,2,50000\nback,2,1700000,0,50000\nleft,1,3,500000,50000\nh1,0,200020,199990,0\nh1,0,200030,199990,100000\nh2,0,1799990,200015,0\nh2,0,1799990,200020,100000\nh3,0,200000,800040,0\nh3,0,200000,800040,100000\nh4,0,1800500,800000,0\nh4,0,1800500,800000,100000\n";
 
 // The first points of the plate are about the origin of its coordinates, so a range lies about the first of them.
 fn ranges(turn: u32, shift: u32) -> Ranges
@@ -137,8 +139,13 @@ fn told(rt: &HostRuntime, outcome: &Outcome) -> Result<String, Fail> {
     match outcome {
         Outcome::Accept { witness, level } => Ok(format!(in alloc;
             "accept {level} root {} at {} {} {} {} {} {}",
-            witness.root, witness.at[0], witness.at[1], witness.at[2], witness.at[3],
-            witness.at[4], witness.at[5]
+            witness.root,
+            witness.at[0],
+            witness.at[1],
+            witness.at[2],
+            witness.at[3],
+            witness.at[4],
+            witness.at[5]
         )?),
         Outcome::Reject { tree } => {
             let mut text = String::from_str(alloc, "reject")?;
@@ -173,7 +180,8 @@ fn plates(rt: HostRuntime) -> Result<(), Fail> {
     for (file, turn, shift, want) in cases {
         let table = read_points(rt.alloc(), file).expect(&rt, "a table");
         let index = PointIndex::of(rt.alloc(), &table)?;
-        let task = placement_task(ranges(turn, shift), BASE, conditions(rt.alloc())?, &index);
+        let conditions = conditions(rt.alloc())?;
+        let task = placement_task(rt.alloc(), ranges(turn, shift), BASE, &conditions, &index)?;
         let outcome = search(&rt, rt.alloc(), &task, 1_000_000)?;
         let got = told(&rt, &outcome)?;
         assert_eq!(rt; got.as_str(), want);

@@ -1,20 +1,20 @@
 -- Boxes with the ends that a cell, or a place of the grid, has: so what is proved of boxes is so of ends.
-use Rattle.std.proofs.Common.{arith, ◌≡◌, refl, ap, ◌∙◌, ℕ, zero, suc, ◌+◌, ◌*◌, ◌^◌, ◌≤◌, Bool, true, false, ◌==◌, nat_le, inl, inr, ⊎_elim, unsigned_abs, length}
+use Rattle.std.proofs.Common.{arith, ◌≡◌, refl, ap, ◌∙◌, ℕ, ◌+◌, ◌*◌, ◌^◌, ◌≤◌, Bool, true, false, ◌==◌, nat_le, inl, inr, ⊎_elim, unsigned_abs, length}
 use Rattle.std.proofs.lemmas.Int.{ints}
 use Rattle.std.specs.Prelude.{ℤ, pos, ◌+ℤ◌, ◌*ℤ◌, ◌≤ℤ◌, ◌<ℤ◌, ◌⊎◌, if◌then◌else◌}
 use Rattle.gd_cells.specs.Grid.{IsCell}
 use Rattle.gd_cells.specs.declared.cell.Cell.{Cell}
 use Rattle.gd_fit.specs.Tests.{cell_ends}
-use Rattle.gd_grid.specs.Cells.{coordinate_at, index_at, low_in}
+use Rattle.gd_grid.specs.Cells.{coordinate_at, low_in}
 use Rattle.gd_grid.specs.Coordinates.{width_after}
 use Rattle.gd_grid.specs.Turns.{turns}
-use Rattle.gd_interval.proofs.Products.{four-ordered, square-ordered, two-ordered}
+use Rattle.gd_interval.proofs.Products.{square-ordered, two-ordered}
 use Rattle.gd_interval.proofs.Quotients.{quot-ordered}
 use Rattle.gd_interval.specs.declared.iv.Iv.{Iv}
 use Rattle.gd_quat.proofs.Encloses.{holds-matrix, norm-large}
 use Rattle.gd_quat.proofs.Grid.{grid-rotation, holds-grid, holds-point}
 use Rattle.gd_quat.specs.Boxes.{Fits, IsRotationBox}
-use Rattle.gd_quat.specs.Formulas.{Ends, MatrixEnds, RotationEnds, VectorEnds, alone, balance, difference, ends, grid_ends, matrix_ends, matrix_formula, multiple, norm_ends, numerator_ends, point_ends, product, quotient, quotients, rotation_ends, square, sum, total, twice_difference, twice_sum, vector_ends}
+use Rattle.gd_quat.specs.Formulas.{Ends, MatrixEnds, RotationEnds, VectorEnds, alone, balance, difference, ends, grid_ends, matrix_ends, matrix_formula, multiple, norm_ends, numerator_ends, point_ends, product, quotient, quotients, rotation_ends, square, sum, total, vector_ends}
 use Rattle.gd_quat.specs.Placements.{IsOnGrid, IsPlacement, Placement, placement_of, rotation_at}
 use Rattle.gd_quat.specs.Rotations.{Rotation}
 use Rattle.gd_quat.specs.declared.shape.Assignment.{Assignment}

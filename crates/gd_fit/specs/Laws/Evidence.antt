@@ -6,7 +6,7 @@ use Rattle.std.proofs.lemmas.Bool.Decides.{nat_tests}
 use Rattle.std.proofs.lemmas.List.Elements.{All-head, All-tail}
 use Rattle.std.specs.List.{All, list_all}
 use Rattle.std.specs.Option.{IfSome, option_or}
-use Rattle.std.specs.Prelude.{ℤ, filter, map, option_map, slice_get}
+use Rattle.std.specs.Prelude.{filter, map, option_map, slice_get}
 use Rattle.gd_base.specs.Limits.{CONDITIONS, POINTS}
 use Rattle.gd_bound.proofs.Firsts.{first-refutes, none-refutes}
 use Rattle.gd_bound.proofs.Refuting.{and-left, and-right}
@@ -195,15 +195,17 @@ points_inside b base rows c e h =
 
 -- those of a first evidence are below 2^32
 pub first_is_short : (b : PlacedEnds) (base : V3) (rows : List Row) (cs : List Condition) (e : Evidence)
-    → All IsCondition cs → length cs ≤ CONDITIONS → length rows ≤ POINTS → first_against b base rows 1 cs ≡ Some e
+    → All IsCondition cs → length cs ≤ CONDITIONS → (0 < length cs → length rows ≤ POINTS)
+    → first_against b base rows 1 cs ≡ Some e
     → IsShort e
 first_is_short b base rows cs e is few points h = by (first_found b base rows 1 cs e is h)
   where
     by : Refutes b base rows 1 cs e → IsShort e
     by r =
         let n = points_inside b base rows r.condition e r.refuted in
+        let most : length rows ≤ POINTS = points (omega (arith, r.inside)) in
         record {
           condition = omega (arith, r.numbers, r.inside, few);
-          a = omega (arith, n.0, points);
-          b = omega (arith, n.1, points);
+          a = omega (arith, n.0, most);
+          b = omega (arith, n.1, most);
         }

@@ -1,19 +1,21 @@
 -- The laws of a group of conditions as a task.
-use Rattle.std.proofs.Common.{◌≡◌, refl, sym, subst, ℕ, suc, ◌+◌, ◌*◌, true, false, Option, None, Some, List, get_or, arith}
+use Rattle.std.proofs.Common.{◌≡◌, refl, sym, subst, ◌≤◌, ◌<◌, true, Option, None, Some, List, [], ◌∷◌, length, get_or, arith}
 use Rattle.std.proofs.lemmas.Bool.{false≢true}
+use Rattle.std.proofs.lemmas.List.{length-map}
+use Rattle.std.proofs.lemmas.List.Elements.{All-map}
 use Rattle.std.proofs.lemmas.List.Sums.{AllPass-from_list_all}
 use Rattle.std.specs.List.{All, list_all}
-use Rattle.std.specs.Prelude.{ℤ, ◌⊎◌}
+use Rattle.std.specs.Prelude.{ℤ}
 use Rattle.gd_bound.proofs.Refuting.{refuted-is-empty}
 use Rattle.gd_bound.specs.Evidence.{refuted_at}
-use Rattle.gd_cells.specs.Grid.{IsCell}
-use Rattle.gd_cells.specs.Laws.{HalvesCover, Laws, RefutedIsEmpty, RootsCover}
+use Rattle.gd_cells.specs.Laws.{HalvesCover, Laws, RootsCover}
 use Rattle.gd_cells.specs.declared.cell.Cell.{Cell}
-use Rattle.gd_cells.specs.declared.cell.Evidence.{Evidence}
 use Rattle.gd_cells.specs.declared.cell.Witness.{Witness}
-use Rattle.gd_fit.specs.Fits.{Asked, IsAsked, IsFit, numbers_of, placement_in}
+use Rattle.gd_base.specs.Limits.{CONDITIONS, POINTS}
+use Rattle.gd_fit.specs.Fits.{Asked, IsAsked, IsFit, asked_of, numbers_of, placement_in}
 use Rattle.gd_fit.specs.Laws.Boxes.{IsCellPlaced, IsPlacedAt, cell_placed, grid_is_placed}
 use Rattle.gd_fit.specs.Laws.Evidence.{first_is_short, first_refutes_named, named, none_refutes_named}
+use Rattle.gd_fit.specs.Subjects.{AreJudged, SpeakOf, conditions_of}
 use Rattle.gd_fit.specs.Meant.{HeldPlacesFit, IsUnmetIn, NoneFits, NumbersStand, RefutedIsUnmet}
 use Rattle.gd_fit.specs.Tests.{cell_ends, numbered, questions_of, refutes_named}
 use Rattle.gd_points.specs.declared.table.Row.{Row}
@@ -22,7 +24,6 @@ use Rattle.gd_grid.proofs.Grids.{coordinates_make_grid}
 use Rattle.gd_grid.specs.Cells.{IsGridOf}
 use Rattle.gd_quat.proofs.Grid.{grid-placement}
 use Rattle.gd_quat.specs.Placements.{IsPlacement, Placement, placement_of}
-use Rattle.gd_quat.specs.declared.shape.Assignment.{Assignment}
 use Rattle.gd_turn.proofs.Assignments.{witnesses_are_placements}
 use Rattle.gd_turn.proofs.Coordinates.{are_coordinates, first_root, last_root}
 use Rattle.gd_turn.proofs.Covers.{cells_make_grid, turn_halves, turn_roots}
@@ -36,6 +37,7 @@ use Rattle.gd_zone.specs.Conditions.{IsCondition, Meets}
 use Rattle.gd_zone.specs.Tests.{condition_holds}
 use Rattle.gd_zone.specs.declared.condition.Condition.{Condition}
 use Rattle.gd_zone.specs.declared.placed.Placed.{Placed}
+use Rattle.gd_zone.specs.declared.subject.Subject.{Subject}
 
 pub numbers_stand : NumbersStand
 numbers_stand p = refl
@@ -134,3 +136,19 @@ fit_laws q asked =
       centre_names_place = λ c cell.
           (centres_in_range (cells_of r) (coordinates_of r) c (halved r asked.ranges) is_grid refl cell).1;
     }
+
+-- ---- the conditions of subjects are asked together
+few_rows : (rows : List Row) (subjects : List Subject) → SpeakOf rows subjects → 0 < length (conditions_of subjects)
+    → length rows ≤ POINTS
+few_rows rows [] of some = absurd (omega (arith, some))
+few_rows rows (s ∷ ss) of some = subst (λ (r : List Row). length r ≤ POINTS) (of 0 s (omega arith)) s.few
+
+pub are_asked : (ranges : Ranges) (base : V3) (rows : List Row) (subjects : List Subject) → AreRanges ranges
+    → AreJudged subjects → SpeakOf rows subjects → length subjects ≤ CONDITIONS
+    → IsAsked (asked_of ranges base rows (conditions_of subjects))
+are_asked ranges base rows subjects are judged of few = record {
+  ranges = are;
+  conditions = All-map IsCondition (λ (s : Subject). s.condition) subjects judged;
+  few = subst (λ n. n ≤ CONDITIONS) (sym (length-map subjects (λ (s : Subject). s.condition))) few;
+  points = few_rows rows subjects of;
+}
