@@ -8,7 +8,7 @@ use Rattle.gd_cert.specs.Certificates.{Certificate, Heading, Plain, Probe}
 use Rattle.gd_cells.specs.Meaning.{Questions}
 use Rattle.gd_cert.specs.declared.fault.CertFault.{CertFault}
 use Rattle.gd_check.specs.Wrong.{first_wrong}
-use Rattle.gd_form.specs.FlatTask.{questions_of}
+use Rattle.gd_flat.specs.FlatTask.{questions_of}
 use Rattle.gd_points.specs.Table.{Table}
 use Rattle.gd_report.specs.Said.{Said, status_of}
 use Rattle.gd_run.specs.Answers.{Answer, Store, only_said, said_of_certificate, said_of_wrong, said_under, stores_to}

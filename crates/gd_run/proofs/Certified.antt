@@ -15,8 +15,8 @@ use Rattle.gd_check.specs.Means.{IsTrueOf}
 use Rattle.gd_check.specs.Right.{IsRight, IsRightBody}
 use Rattle.gd_check.specs.Written.{VerdictIsRight, body_of_end}
 use Rattle.gd_check.specs.Wrong.{first_wrong}
-use Rattle.gd_form.specs.Laws.Task.{flat_laws}
-use Rattle.gd_form.specs.FlatTask.{IsFeasible, assignment_of, direction_at, questions_of}
+use Rattle.gd_flat.specs.Laws.Task.{flat_laws}
+use Rattle.gd_flat.specs.FlatTask.{IsFeasible, assignment_of, direction_at, questions_of}
 use Rattle.gd_points.specs.declared.table.Row.{Row}
 use Rattle.gd_run.specs.Answers.{certificate_of_end}
 use Rattle.gd_verdict.specs.Verdict.{End, IsVerdict}

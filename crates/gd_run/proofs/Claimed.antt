@@ -16,9 +16,9 @@ use Rattle.gd_cert.specs.Text.{text}
 use Rattle.gd_cert.specs.declared.fault.CertFault.{CertFault}
 use Rattle.gd_check.specs.Right.{AreRightBodies, IsRight, IsRightBody}
 use Rattle.gd_check.specs.Wrong.{first_wrong}
-use Rattle.gd_form.specs.FlatTask.{IsFeasible, IsInside, assignment_of, direction_at, questions_of}
-use Rattle.gd_form.specs.Flatness.{IsFlatAlong}
-use Rattle.gd_form.specs.Laws.Task.{flat_laws}
+use Rattle.gd_flat.specs.FlatTask.{IsFeasible, IsInside, assignment_of, direction_at, questions_of}
+use Rattle.gd_flat.specs.Flatness.{IsFlatAlong}
+use Rattle.gd_flat.specs.Laws.Task.{flat_laws}
 use Rattle.gd_points.proofs.Tables.{table_has_few, table_has_row}
 use Rattle.gd_points.specs.Points.{points}
 use Rattle.gd_points.specs.Table.{Table}

@@ -1,7 +1,7 @@
 -- What a run leaves under the word of the certificate of `flat`.
 use Rattle.std.proofs.Common.{arith, ◌≡◌, ◌∙◌, ap, sym, refl, subst, ℕ, ◌≤◌, ◌⊎◌, inl, inr, true, List, [], ◌∷◌, ◌++◌, Option, Some, None, take}
 use Rattle.gd_cert.specs.Text.{text}
-use Rattle.gd_form.specs.FlatTask.{questions_of}
+use Rattle.gd_flat.specs.FlatTask.{questions_of}
 use Rattle.gd_points.proofs.Tables.{table_has_few, table_has_row}
 use Rattle.gd_report.specs.Said.{status_of}
 use Rattle.gd_run.proofs.Asked.{same_ask}

@@ -2,7 +2,7 @@
 use Rattle.std.specs.Prelude.{ℕ, ◌≡◌, ◌≤◌, List, [], ◌∷◌, codes, decimal, IsSomeAnd}
 use Rattle.gd_base.specs.Limits.{TOLERANCE}
 use Rattle.gd_cert.specs.Certificates.{Certificate}
-use Rattle.gd_form.specs.FlatTask.{questions_of}
+use Rattle.gd_flat.specs.FlatTask.{questions_of}
 use Rattle.gd_points.specs.Table.{Table}
 use Rattle.gd_run.specs.Answers.{Answer, only_said, said_of_certificate}
 use Rattle.gd_run.specs.Inputs.{Given, Input}

@@ -7,8 +7,8 @@ use Rattle.gd_cert.specs.Certificates.{Body, Accept, Reject, Open, Certificate, 
 use Rattle.gd_cert.specs.Text.{text}
 use Rattle.gd_cells.specs.Witnesses.{witness_of}
 use Rattle.gd_check.specs.Right.{IsRight}
-use Rattle.gd_form.specs.FlatTask.{direction_at, questions_of}
-use Rattle.gd_form.specs.Flatness.{IsFlat, IsFlatAlong}
+use Rattle.gd_flat.specs.FlatTask.{direction_at, questions_of}
+use Rattle.gd_flat.specs.Flatness.{IsFlat, IsFlatAlong}
 use Rattle.gd_points.specs.Table.{Table}
 use Rattle.gd_points.specs.declared.table.Row.{Row}
 use Rattle.gd_report.specs.Texts.{accept_text, invalid_text, reject_text, valid_text}

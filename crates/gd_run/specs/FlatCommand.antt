@@ -2,7 +2,7 @@
 use Rattle.std.specs.Prelude.{ℕ, ◌≡◌, ◌≤◌, List, [], ◌∷◌, Option, codes, decimal, option_to_list, IsSomeAnd}
 use Rattle.gd_base.specs.Limits.{BUDGET, TOLERANCE}
 use Rattle.gd_cert.specs.Text.{text}
-use Rattle.gd_form.specs.FlatTask.{direction_at, questions_of}
+use Rattle.gd_flat.specs.FlatTask.{direction_at, questions_of}
 use Rattle.gd_points.specs.Table.{Table}
 use Rattle.gd_report.specs.Said.{Said, accepted, opened, rejected}
 use Rattle.gd_run.specs.Answers.{Answer, certificate_of_end, stores_to}

@@ -1,6 +1,6 @@
 -- What an outcome's line needs of it.
 use Rattle.std.specs.Prelude.{◌≡◌, true}
-use Rattle.gd_form.specs.FlatTask.{is_in_range}
+use Rattle.gd_flat.specs.FlatTask.{is_in_range}
 use Rattle.gd_search.specs.declared.outcome.Outcome.{Outcome}
 use Rattle.gd_search.specs.declared.outcome.Outcome.TheVariants.{Accept, Reject, StillOpen}
 

@@ -13,7 +13,7 @@ use crate::report::{Report, only_line};
 use gd_base::limits::TOLERANCE;
 use gd_base::{Memory, plain_number};
 use gd_cert::Cert;
-use gd_form::flat_task;
+use gd_flat::flat_task;
 use gd_points::PointTable;
 use std::alloc::Global;
 

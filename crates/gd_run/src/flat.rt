@@ -1,7 +1,7 @@
 // The command `flat`: its words, its inputs and its job.
 ghost use Rattle.std.specs.Prelude.{◌≡◌, ◌<◌, ◌≤◌, ◌∷◌, [], true, IfOk, codes, length, map, option_map, option_to_list};
 ghost use Rattle.gd_base.specs.Limits.{BUDGET, TOLERANCE};
-ghost use Rattle.gd_form.specs.FlatTask.{direction_at, is_in_range};
+ghost use Rattle.gd_flat.specs.FlatTask.{direction_at, is_in_range};
 ghost use Rattle.gd_report.specs.Said.{said_in};
 ghost use Rattle.gd_run.specs.Asks.{IsSpelled};
 ghost use Rattle.gd_run.specs.FlatCommand.{IsFlatAnswer, IsFlatRange, flat_inputs, flat_words, said_of_end};
@@ -15,7 +15,7 @@ use gd_base::limits::{BUDGET, TOLERANCE};
 use gd_base::{Memory, plain_number};
 use gd_cells::Witness;
 use gd_dir::direction;
-use gd_form::flat_task;
+use gd_flat::flat_task;
 use gd_points::PointTable;
 use gd_report::{Line, accept_line, open_line, reject_line};
 use gd_search::{Outcome, search};

@@ -1,0 +1,9 @@
+pub mod Among
+pub mod AxisSizes
+mod AxisValues
+pub mod LineLoops
+pub mod Near
+pub mod PlaceFacts
+pub mod Radius
+pub mod RootExtremes
+pub mod Roots

@@ -1,0 +1,25 @@
+//! Straightness, circularity and cylindricity: forms about an axis, judged over the cells of directions and offsets.
+#![tactic(auto)]
+
+mod axis;
+mod axis_box;
+mod axis_def;
+mod extent;
+mod forms;
+mod judged;
+mod laws;
+mod line;
+mod places;
+mod ring;
+mod task;
+#[cfg(test)]
+mod tests;
+mod wide;
+
+pub use axis_box::AxisBox;
+pub use axis_def::{AxisDef, axis_task};
+pub use judged::Judged;
+pub use laws::{axis_tests_are_sound, zones_are_meant};
+pub use line::{is_line, is_line_refuted_at, line_evidence_in};
+pub use ring::{is_ring, is_ring_refuted_at, ring_evidence_in};
+pub use task::AxisTask;

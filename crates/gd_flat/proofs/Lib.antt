@@ -1,0 +1,6 @@
+pub mod Blocks
+pub mod Decisions
+mod KnownValues
+pub mod Leading
+pub mod Sizes
+pub mod Steps

@@ -1,0 +1,9 @@
+use Rattle.gd_dir.proofs.Halves.{grid_has_face_cells}
+use Rattle.gd_flat.proofs.Leading.{box_leads}
+use Rattle.gd_flat.proofs.task.FlatTaskTask.refutes_at.Goals as goal
+
+pub face_box-requires : goal.face_box-requires
+face_box-requires c = record { cell = grid_has_face_cells c.args.cell.now c.requires }
+
+pub is_refuted_at-requires-clause-leads : goal.is_refuted_at-requires-clause-leads
+is_refuted_at-requires-clause-leads c = rw c.face_box.ensures.ends (box_leads c.args.cell.now (grid_has_face_cells c.args.cell.now c.requires))

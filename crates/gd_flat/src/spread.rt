@@ -1,0 +1,129 @@
+// Flatness across one direction.
+ghost use Rattle.std.specs.Prelude.{◌≡◌, ◌<◌, ◌≤◌, ◌^◌, ◌*◌, ◌-ℤ◌, get_or, length, pos, take, unsigned_abs};
+ghost use Rattle.std.specs.Ordering.{is_le};
+ghost use Rattle.gd_base.specs.Limits.{TOLERANCE};
+ghost use Rattle.gd_flat.specs.FlatTests.{along, greatest, is_within, least};
+ghost use Rattle.gd_int.specs.Roots.{cmp_root_of};
+ghost use Rattle.gd_vec.specs.Vector.{IsWithin, norm2_of};
+
+use crate::face::Span;
+use crate::points::{Points, block_end, place_at};
+use crate::products::{short, sum, times};
+use gd_int::cmp_root;
+use gd_vec::{V3, norm2};
+
+// How far the point at a place lies along a direction, in units and 2^-30.
+#[inline(always)]
+fn value_at(n: &V3, points: &Points<'_>, at: usize) -> i64
+    requires direction { IsWithin (2 ^ 30) n.now }
+    requires at { at < length points.now.table.now.rows }
+    ensures value { result ≡ get_or (along n.now points.now.table.now.rows) at (pos 0) }
+    ensures size { unsigned_abs result ≤ 3 * 2 ^ 54 }
+{
+    let point = place_at(points, at);
+    sum(
+        times(short(n.x), point.x),
+        times(short(n.y), point.y),
+        times(short(n.z), point.z),
+    )
+}
+
+// The least and the greatest value of the points before a place, from those before an earlier one.
+fn span_to(n: &V3, points: &Points<'_>, before: Span, from: usize, to: usize) -> Span
+    requires direction { IsWithin (2 ^ 30) n.now }
+    requires from { 0 < from }
+    requires order { from ≤ to }
+    requires to { to ≤ length points.now.table.now.rows }
+    requires lo { before.lo ≡ least (take from (along n.now points.now.table.now.rows)) }
+    requires hi { before.hi ≡ greatest (take from (along n.now points.now.table.now.rows)) }
+    ensures lo { result.lo ≡ least (take to (along n.now points.now.table.now.rows)) }
+    ensures hi { result.hi ≡ greatest (take to (along n.now points.now.table.now.rows)) }
+{
+    let mut least = before.lo;
+    let mut most = before.hi;
+    for at in from..to {
+        let value = value_at(n, points, at);
+        least = least.min(value);
+        most = most.max(value);
+    }
+    Span {
+        lo: least,
+        hi: most,
+    }
+}
+
+// Whether values are no further apart than the tolerance, in units, along a direction.
+fn is_narrow(n: &V3, span: Span, tolerance: u32) -> bool
+    requires direction { IsWithin (2 ^ 30) n.now }
+    requires tolerance { tolerance ≤ TOLERANCE }
+    ensures { result ≡ is_le (cmp_root_of (span.hi -ℤ span.lo) (pos tolerance) (norm2_of n.now)) }
+{
+    let spread = span.hi - span.lo;
+    cmp_root(i128::from(spread), i128::from(tolerance), norm2(n)).is_le()
+}
+
+/// Whether the points lie within the tolerance, in units, along a direction in 2^-30. It looks at no further block of
+/// points once those before are too far apart.
+pub fn lies_within(n: &V3, points: &Points<'_>, tolerance: u32) -> bool
+    requires direction { IsWithin (2 ^ 30) n.now }
+    requires tolerance { tolerance ≤ TOLERANCE }
+    ensures { result ≡ is_within points.now.table.now.rows tolerance n.now }
+{
+    let count = points.table.len();
+    let first = value_at(n, points, 0);
+    let mut span = Span {
+        lo: first,
+        hi: first,
+    };
+    let mut from = 1;
+    while from < count {
+        let to = block_end(from, count);
+        span = span_to(n, points, span, from, to);
+        if !is_narrow(n, span, tolerance) {
+            return false;
+        }
+        from = to;
+    }
+    is_narrow(n, span, tolerance)
+}
+
+#[cfg(test)]
+mod tests {
+    use super::*;
+    use crate::task::flat_task;
+    use gd_points::read_points;
+    use std::alloc::Global;
+
+    // Whether the points of a file lie within a tolerance along (1, 1, 0).
+    fn are_near(alloc: Global, file: &[u8], tolerance: u32) -> Option<bool>
+        requires { tolerance ≤ TOLERANCE }
+    {
+        let table = read_points(alloc, file).ok()?;
+        if table.is_empty() {
+            return None;
+        }
+        let one = 1 << 30;
+        let n = V3 {
+            x: one,
+            y: one,
+            z: 0,
+        };
+        Some(lies_within(&n, &flat_task(&table, tolerance).points, tolerance))
+    }
+
+    // By hand: the distance along (1, 1, 0) is (x + y) over the root of 2.
+    #[test]
+    fn spreads(rt: HostRuntime) {
+        let to_ten: [(&[u8], bool); 4] = [
+            (b"feature,group,x,y,z\na,0,0,0,0\na,0,7,7,0\n", true),
+            (b"feature,group,x,y,z\na,0,0,0,0\na,0,7,8,0\n", false),
+            (b"feature,group,x,y,z\na,0,0,0,0\na,0,-7,-7,0\n", true),
+            (b"feature,group,x,y,z\na,0,0,0,0\na,0,-8,-7,0\n", false),
+        ];
+        for (file, near) in to_ten {
+            assert_eq!(rt; are_near(rt.alloc(), file, 10), Some(near), "{file:?}");
+        }
+        let across = b"feature,group,x,y,z\na,0,0,0,0\na,0,1000,-1000,0\n";
+        assert_eq!(rt; are_near(rt.alloc(), across, 0), Some(true));
+    }
+}

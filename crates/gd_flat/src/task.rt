@@ -1,0 +1,110 @@
+// Flatness as a task over the cells of three faces.
+ghost use Rattle.std.specs.Prelude.{◌≡◌, ◌<◌, ◌≤◌, ◌^◌, length, nat_le, unsigned_abs};
+ghost use Rattle.gd_base.specs.Limits.{TOLERANCE};
+ghost use Rattle.gd_flat.specs.Laws.Task.{flat_laws};
+ghost use Rattle.gd_flat.specs.FlatTask.{IsFeasible, IsInside, assignment_of, direction_at, questions_of};
+
+use crate::flat::{first_evidence_in, is_refuted_at};
+use crate::points::Points;
+use crate::spread::lies_within;
+use gd_cells::{Cell, Evidence, Task, Witness, split_cell, witness_of, zeros_behind};
+use gd_dir::{centre_of, direction, face_box};
+use gd_points::PointTable;
+
+/// The ratios -1 and 1 have this size, in 2^-30.
+const ONE: u64 = 1 << 30;
+
+/// The flatness of some points to a tolerance (ASME Y14.5M-1994, 6.4.2): some direction has all points between two planes across it
+/// that lie the tolerance apart. The cells are boxes of directions on three faces of a cube. A witness is a face and two ratios in 2^-30.
+#[derive(Clone, Copy)]
+pub struct FlatTask<'a> {
+    pub points: Points<'a>,
+    pub tolerance: u32,
+    ghost tolerable: { tolerance ≤ TOLERANCE },
+}
+
+/// The flatness of all points of a table, taken as one feature, to a tolerance in units of 0.1 micrometre.
+pub fn flat_task(table: &PointTable, tolerance: u32) -> FlatTask<'_>
+    requires some { 0 < length table.now.rows }
+    requires tolerance { tolerance ≤ TOLERANCE }
+    ensures rows { result.points.table.now.rows ≡ table.now.rows }
+    ensures tolerance { result.tolerance ≡ tolerance }
+{
+    FlatTask {
+        points: Points {
+            table,
+            columns: table.columns(),
+        },
+        tolerance,
+    }
+}
+
+impl<'a> Task for FlatTask<'a> {
+    ghost questions = { λ s. questions_of s.points.table.now.rows s.tolerance };
+
+    ghost feasible = { λ s a. IsFeasible s.points.table.now.rows s.tolerance a };
+
+    ghost inside = { λ s a c. IsInside a c };
+
+    ghost assignment = { λ s w. assignment_of w.root (direction_at w) };
+
+    fn roots(&self) -> u32 {
+        3
+    }
+
+    fn dims(&self) -> u32 {
+        2
+    }
+
+    fn numbers(&self) -> u32 {
+        2
+    }
+
+    fn finest_level(&self) -> u32 {
+        60
+    }
+
+    fn points(&self) -> usize {
+        self.points.table.len()
+    }
+
+    fn split(&self, cell: &Cell) -> (Cell, Cell) {
+        split_cell(cell, cell.level as usize % 2)
+    }
+
+    fn refutes(&self, cell: &Cell) -> Option<Evidence> {
+        first_evidence_in(&face_box(cell), &self.points, self.tolerance)
+    }
+
+    fn refutes_at(&self, cell: &Cell, evidence: &Evidence) -> bool {
+        is_refuted_at(&face_box(cell), &self.points, self.tolerance, evidence)
+    }
+
+    fn centre(&self, cell: &Cell) -> Witness {
+        let (first, second) = centre_of(cell);
+        witness_of(cell.root, &[first, second])
+    }
+
+    fn in_range(&self, witness: &Witness) -> bool {
+        1 <= witness.root
+            && witness.root <= 3
+            && is_ratio(witness.at[0])
+            && is_ratio(witness.at[1])
+            && zeros_behind(witness, 2)
+    }
+
+    fn holds(&self, witness: &Witness) -> bool {
+        let n = direction(witness.root, witness.at[0], witness.at[1]);
+        lies_within(&n, &self.points, self.tolerance)
+    }
+
+    ghost laws = { λ t. flat_laws t.points.table.now.rows t.tolerance t.points.some t.points.few };
+}
+
+// Whether a ratio in 2^-30 lies between -1 and 1.
+#[inline]
+fn is_ratio(ratio: i64) -> bool
+    ensures { result ≡ nat_le (unsigned_abs ratio) (2 ^ 30) }
+{
+    ratio.unsigned_abs() <= ONE
+}

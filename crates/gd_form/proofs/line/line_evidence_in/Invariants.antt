@@ -1,6 +1,0 @@
-use Rattle.gd_form.proofs.LineLoops.{NoneMore}
-use Rattle.gd_form.specs.AxisTests.{lower_ends}
-use Rattle.gd_form.proofs.line.line_evidence_in.Given as goal
-
-abbrev pub invariant-loop-at : goal.invariant-loop-at
-invariant-loop-at l = record { none : NoneMore l.most l.at (lower_ends l.over.shape l.over.b.now l.over.own l.judged.points.table.now.rows l.judged.numbers.now) }

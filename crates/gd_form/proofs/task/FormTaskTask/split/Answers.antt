@@ -1,7 +1,0 @@
-use Rattle.gd_cells.proofs.Cells.{index_below}
-use Rattle.gd_dir.specs.Faces.{faces}
-use Rattle.gd_form.specs.Laws.Task.{faces_grid}
-use Rattle.gd_form.proofs.task.FormTaskTask.split.Goals as goal
-
-pub split_cell-requires-clause-index : goal.split_cell-requires-clause-index
-split_cell-requires-clause-index c = index_below faces faces_grid c.args.cell.now c.requires.cell c.requires.above
