@@ -1,0 +1,4 @@
+pub mod SectionLists
+pub mod GroupLists
+pub mod Placed
+pub mod Conditions
