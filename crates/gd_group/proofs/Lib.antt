@@ -2,3 +2,4 @@ pub mod SectionLists
 pub mod GroupLists
 pub mod Placed
 pub mod Conditions
+mod KnownValues
