@@ -1,0 +1,5 @@
+pub mod SectionLists
+pub mod GroupLists
+pub mod Placed
+pub mod Conditions
+mod KnownValues

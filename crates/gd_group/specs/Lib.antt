@@ -1,0 +1,6 @@
+pub mod Requirements
+pub mod Met
+pub mod Lists
+pub mod Groups
+pub mod Conditions
+pub mod Labels
