@@ -22,7 +22,7 @@ use Rattle.gd_tables.specs.declared.kind.Kind.TheVariants as kind
 use Rattle.gd_zone.specs.Conditions.{IsCondition}
 use Rattle.gd_zone.specs.declared.condition.Condition.{Condition}
 
-abbrev is_orientation : Kind → Bool
+abbrev pub is_orientation : Kind → Bool
 is_orientation kind.Orientation = true
 is_orientation _ = false
 

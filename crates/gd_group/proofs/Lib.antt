@@ -3,3 +3,4 @@ pub mod GroupLists
 pub mod Placed
 pub mod Conditions
 mod KnownValues
+pub mod Counts

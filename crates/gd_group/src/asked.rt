@@ -1,12 +1,14 @@
 // The conditions of a group that is judged at a placement.
 ghost use Rattle.std.specs.Prelude.{◌≡◌, ◌≤◌, ◌++◌, Some, IfOk, OnOk, length, slice_get};
 ghost use Rattle.std.specs.List.{All, flat_map};
-ghost use Rattle.gd_base.specs.Limits.{OFFSETS};
+ghost use Rattle.gd_base.specs.Limits.{CONDITIONS, OFFSETS};
 ghost use Rattle.gd_datum.specs.Facts.{HasPoints};
 ghost use Rattle.gd_datum.specs.Listed.{of_words};
 ghost use Rattle.gd_frames.specs.Facts.{IsFile};
 ghost use Rattle.gd_group.specs.Conditions.{group_words, most_offsets, of_group, of_lower, of_part, of_requirement};
 ghost use Rattle.gd_group.specs.Conditions.{of_whole, words_of, words_of_part};
+ghost use Rattle.gd_group.specs.Groups.{judged_with};
+ghost use Rattle.gd_group.specs.declared.requirement.Requirement.{Requirement};
 ghost use Rattle.gd_points.specs.Table.{HasRows};
 ghost use Rattle.gd_tables.specs.Kinds.{file_of, frame_of};
 ghost use Rattle.gd_zone.specs.Conditions.{IsCondition};
@@ -22,7 +24,8 @@ use gd_zone::Condition;
 use std::alloc::Global;
 
 /// The conditions of a group: those of the datum words of its first requirement, and then those of each requirement in
-/// order (docs/KINDS.md). A form has none. The file was read beside the table of the index.
+/// order (docs/KINDS.md). A form has none. The file was read beside the table of the index. A group of `groups_of` has
+/// at most 4,096.
 pub fn conditions_of(
     alloc: Global,
     file: &FrameFile,
@@ -34,6 +37,8 @@ pub fn conditions_of(
     ensures conditions { OnOk result (All IsCondition (of_group (file_of file.now) index.now.table.now.rows group.now)) }
     ensures points { OnOk result (HasRows index.now.table.now.rows (length index.now.table.now.names)
         → All (HasPoints index.now.table.now.rows) (of_group (file_of file.now) index.now.table.now.rows group.now)) }
+    ensures few { OnOk result ((r : Requirement) → group.now ≡ judged_with (file_of file.now) r
+        → length (of_group (file_of file.now) index.now.table.now.rows group.now) ≤ CONDITIONS) }
 {
     let mut conditions = Vec::new(alloc);
     append_words(alloc, file, index, group, &mut conditions)?;
