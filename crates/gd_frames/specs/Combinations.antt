@@ -1,5 +1,6 @@
 -- What a frame may state together. Code 31 is told where it states anything else.
-use Rattle.std.specs.Prelude.{Bool, true, false, not, List, [], ◌∷◌, length, Option, Some, None, is_some, is_none, slice_get, nat_eq, nat_lt, ◌&&◌, ◌||◌, ◌==◌}
+use Rattle.std.specs.Prelude.{Bool, true, false, not, List, [], ◌∷◌, length, Option, Some, None, is_some, is_none}
+use Rattle.std.specs.Prelude.{slice_get, nat_eq, nat_lt, ◌&&◌, ◌||◌, ◌==◌}
 use Rattle.std.specs.List.{list_all}
 use Rattle.std.specs.Option.{option_and_then}
 use Rattle.std.proofs.Math.Bool.{beq}
@@ -77,19 +78,24 @@ passes test (Some x) = test x
 
 -- the feature of the datum that a word names
 abbrev pub feature_of : List FeatureDef → List DatumDef → DatumRef → Option FeatureDef
-feature_of features datums w = option_and_then (λ (d : DatumDef). slice_get features d.feature) (slice_get datums w.datum)
+feature_of features datums w =
+    option_and_then (λ (d : DatumDef). slice_get features d.feature) (slice_get datums w.datum)
 
 abbrev pub fits_features : List FeatureDef → Frame → Bool
-fits_features features f = list_all (λ place. passes (λ (def : FeatureDef). takes f.kind f.material def.shape) (slice_get features place)) f.features
+fits_features features f =
+    list_all (λ place. passes (λ (def : FeatureDef). takes f.kind f.material def.shape) (slice_get features place))
+    f.features
 
 abbrev pub fits_words : List FeatureDef → List DatumDef → List DatumRef → Bool
 fits_words features datums words =
-    list_all (λ (w : DatumRef). passes (λ (def : FeatureDef). may_be_datum def.shape w.at_mmb) (feature_of features datums w)) words
+    list_all (λ (w : DatumRef). passes (λ (def : FeatureDef). may_be_datum def.shape w.at_mmb)
+    (feature_of features datums w)) words
 
 abbrev pub has_axis : List FeatureDef → List DatumDef → List DatumRef → Bool
 has_axis features datums [] = false
 has_axis features datums (w ∷ more) =
-    passes (λ (def : FeatureDef). may_be_axis def.shape) (feature_of features datums w) && list_all (λ (v : DatumRef). not v.at_mmb) (w ∷ more)
+    passes (λ (def : FeatureDef). may_be_axis def.shape) (feature_of features datums w)
+    && list_all (λ (v : DatumRef). not v.at_mmb) (w ∷ more)
 
 abbrev pub fits_count : List FeatureDef → List DatumDef → Kind → List DatumRef → Bool
 fits_count features datums kind.Orientation words = nat_lt 0 (length words)

@@ -1,5 +1,6 @@
 -- How many conditions and local offsets the group of a frame has. The tables that make the conditions have as many.
-use Rattle.std.specs.Prelude.{ℕ, ◌+◌, Bool, true, false, not, List, length, Option, Some, None, is_some, slice_get, nat_eq, nat_lt, ◌&&◌, ◌||◌, Result, Ok, Err, if◌then◌else◌}
+use Rattle.std.specs.Prelude.{ℕ, ◌+◌, Bool, true, false, not, List, length, Option, Some, None, is_some, slice_get}
+use Rattle.std.specs.Prelude.{nat_eq, nat_lt, ◌&&◌, ◌||◌, Result, Ok, Err, if◌then◌else◌}
 use Rattle.std.specs.List.{sum_by}
 use Rattle.gd_base.specs.Limits.{CONDITIONS, OFFSETS}
 use Rattle.gd_frames.specs.Combinations.{begin, feature_of}
@@ -48,10 +49,13 @@ words_conditions features datums rows words =
     sum_by (λ (w : DatumRef). count_at (datum_conditions rows w.at_mmb) (feature_of features datums w)) words
 
 abbrev pub frame_conditions : List FeatureDef → List Row → Frame → ℕ
-frame_conditions features rows f = sum_by (λ place. count_at (feature_conditions rows f.kind) (slice_get features place)) f.features
+frame_conditions features rows f =
+    sum_by (λ place. count_at (feature_conditions rows f.kind) (slice_get features place)) f.features
 
 abbrev pub frame_offsets : List FeatureDef → Frame → ℕ
-frame_offsets features f = sum_by (λ place. count_at (λ (def : FeatureDef). feature_offsets f.kind def.shape) (slice_get features place)) f.features
+frame_offsets features f =
+    sum_by (λ place. count_at (λ (def : FeatureDef). feature_offsets f.kind def.shape) (slice_get features place))
+    f.features
 
 -- position and profile frames with the same datum words, one or more, are one group, unless a frame is separate
 abbrev pub is_located : Kind → Bool
@@ -69,7 +73,8 @@ joins f g = is_joined f && is_joined g && nat_eq (length f.datums) (length g.dat
 abbrev pub group_conditions : List FeatureDef → List DatumDef → List Row → List Frame → Frame → ℕ
 group_conditions features datums rows earlier f =
     words_conditions features datums rows f.datums
-    + (sum_by (λ g. if joins f g then frame_conditions features rows g else 0) earlier + frame_conditions features rows f)
+    + (sum_by (λ g. if joins f g then frame_conditions features rows g else 0) earlier
+    + frame_conditions features rows f)
 
 -- a lower segment is a group by itself, with one offset for all its features
 abbrev pub lower_conditions : List FeatureDef → List DatumDef → List Row → Frame → ℕ
@@ -80,5 +85,7 @@ lower_conditions features datums rows f =
 abbrev pub limits : List FeatureDef → List DatumDef → List Row → List Frame → Frame → Result (Unit {0}) Rule
 limits features datums rows earlier f =
     if nat_lt OFFSETS (frame_offsets features f) then Err rule.Offsets
-    else if nat_lt CONDITIONS (group_conditions features datums rows earlier f) || nat_lt CONDITIONS (lower_conditions features datums rows f) then Err rule.Conditions
+    else if nat_lt CONDITIONS (group_conditions features datums rows earlier f)
+    || nat_lt CONDITIONS (lower_conditions features datums rows f)
+    then Err rule.Conditions
     else Ok tt

@@ -23,7 +23,8 @@ in_table row column (Ok x) = Ok x
 in_table row column (Err broken) = Err (fault broken row column)
 
 -- the tables of a list, one after another, each beside those before it
-abbrev pub tables_from : {A : Type 0} → ℕ → (Entries A → Members → Result (Entries A) Rule) → Entries A → List Members → Result (Entries A) InputFault
+abbrev pub tables_from : {A : Type 0} → ℕ → (Entries A → Members → Result (Entries A) Rule) → Entries A → List Members
+    → Result (Entries A) InputFault
 tables_from column with_table before [] = Ok before
 tables_from column with_table before (table ∷ more) =
     in_table (length before.items + 1) column (with_table before table) >>= (λ now. tables_from column with_table now more)
@@ -33,24 +34,30 @@ and_entry (Ok x) entry = Ok (entry x)
 and_entry (Err broken) entry = Err broken
 
 abbrev pub with_feature : Table → Ranges → Entries FeatureDef → Members → Result (Entries FeatureDef) Rule
-with_feature points ranges before table = and_entry (feature_in points ranges before.names table) (λ f. with_entry before f.0 f.1)
+with_feature points ranges before table =
+    and_entry (feature_in points ranges before.names table) (λ f. with_entry before f.0 f.1)
 
 abbrev pub with_datum : List (List ℕ) → Ranges → Entries DatumDef → Members → Result (Entries DatumDef) Rule
-with_datum features ranges before table = and_entry (datum_in features ranges before.names table) (λ d. with_entry before d.name d)
+with_datum features ranges before table =
+    and_entry (datum_in features ranges before.names table) (λ d. with_entry before d.name d)
 
 abbrev pub and_judged : List FeatureDef → List DatumDef → List Row → Result Frame Rule → Result Frame Rule
 and_judged features datums rows (Ok f) = judged features datums rows f
 and_judged features datums rows (Err broken) = Err broken
 
-abbrev pub with_frame : Entries FeatureDef → Entries DatumDef → List Row → Entries Frame → Members → Result (Entries Frame) Rule
+abbrev pub with_frame : Entries FeatureDef → Entries DatumDef → List Row → Entries Frame → Members
+    → Result (Entries Frame) Rule
 with_frame features datums rows before table =
-    and_entry (and_judged features.items datums.items rows (frame_in features.names datums.names before.names table)) (λ f. with_entry before f.name f)
+    and_entry (and_judged features.items datums.items rows (frame_in features.names datums.names before.names table))
+    (λ f. with_entry before f.name f)
 
 -- the limits of the groups, frame after frame
-abbrev pub limits_from : List FeatureDef → List DatumDef → List Row → List Frame → List Frame → Result (Unit {0}) InputFault
+abbrev pub limits_from : List FeatureDef → List DatumDef → List Row → List Frame → List Frame
+    → Result (Unit {0}) InputFault
 limits_from features datums rows earlier [] = Ok tt
 limits_from features datums rows earlier (f ∷ more) =
-    in_table (length earlier + 1) 3 (limits features datums rows earlier f) >>= (λ _. limits_from features datums rows (earlier ++ f ∷ []) more)
+    in_table (length earlier + 1) 3 (limits features datums rows earlier f)
+    >>= (λ _. limits_from features datums rows (earlier ++ f ∷ []) more)
 
 unfoldable pub file_in : Table → Members → Result File InputFault
 file_in points table = do

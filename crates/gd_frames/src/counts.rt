@@ -1,9 +1,11 @@
-// How many conditions and local offsets the group of a frame has, as far as they matter: a number past the limit is kept
-// as one past it.
+// How many conditions and local offsets the group of a frame has, as far as they matter: a number past the limit is
+// kept as one past it.
 ghost use Rattle.std.specs.Prelude.{◌≡◌, ◌+◌, min, map, length, slice_get, if◌then◌else◌};
 ghost use Rattle.std.specs.List.{sum_by};
 ghost use Rattle.gd_frames.specs.Combinations.{feature_of};
-ghost use Rattle.gd_frames.specs.Counts.{by_shape, count_at, datum_conditions, feature_conditions, feature_offsets, frame_conditions, frame_offsets, group_conditions, is_joined, is_located, joins, limits, lower_conditions, words_conditions};
+ghost use Rattle.gd_frames.specs.Counts.{by_shape, count_at, datum_conditions, feature_conditions, feature_offsets};
+ghost use Rattle.gd_frames.specs.Counts.{frame_conditions, frame_offsets, group_conditions, is_joined, is_located};
+ghost use Rattle.gd_frames.specs.Counts.{joins, limits, lower_conditions, words_conditions};
 ghost use Rattle.gd_base.specs.Causes.{Gives};
 ghost use Rattle.gd_keys.specs.Rules.{key_cause};
 ghost use Rattle.gd_tables.specs.Kinds.{frame_of};
@@ -26,7 +28,8 @@ pub(crate) fn limits(
     earlier: &[FrameDef],
     frame: &FrameDef,
 ) -> Result<(), KeyFault>
-    ensures { Gives key_cause (λ _. tt) result (limits features.now datums.now counts.now.points.now.rows (map frame_of earlier.now) (frame_of frame.now)) }
+    ensures { Gives key_cause (λ _. tt) result (limits features.now datums.now counts.now.points.now.rows
+        (map frame_of earlier.now) (frame_of frame.now)) }
 {
     if frame_offsets(features, frame) > OFFSETS {
         return Err(KeyFault::Rule(Rule::Offsets));
@@ -61,7 +64,8 @@ fn word_conditions(
     counts: &GroupCounts<'_>,
     word: &DatumRef,
 ) -> u32
-    ensures { min 4097 result ≡ min 4097 (count_at (datum_conditions counts.now.points.now.rows word.now.at_mmb) (feature_of features.now datums.now word.now)) }
+    ensures { min 4097 result ≡ min 4097 (count_at (datum_conditions counts.now.points.now.rows word.now.at_mmb)
+        (feature_of features.now datums.now word.now)) }
 {
     match feature_of(features, datums, word) {
         Some(def) => by_shape(def.shape, word.at_mmb, counts.contacts_of(def.feature)),
@@ -164,7 +168,8 @@ fn joined_conditions(
     earlier: &[FrameDef],
     frame: &FrameDef,
 ) -> u32
-    ensures { result ≡ min 4097 (sum_by (λ g. if joins (frame_of frame.now) g then frame_conditions features.now counts.now.points.now.rows g else 0) (map frame_of earlier.now)) }
+    ensures { result ≡ min 4097 (sum_by (λ g. if joins (frame_of frame.now) g then frame_conditions features.now
+        counts.now.points.now.rows g else 0) (map frame_of earlier.now)) }
 {
     let mut total = 0;
     for other in earlier {
@@ -182,7 +187,8 @@ fn group_conditions(
     earlier: &[FrameDef],
     frame: &FrameDef,
 ) -> u32
-    ensures { result ≡ min 4097 (group_conditions features.now datums.now counts.now.points.now.rows (map frame_of earlier.now) (frame_of frame.now)) }
+    ensures { result ≡ min 4097 (group_conditions features.now datums.now counts.now.points.now.rows
+        (map frame_of earlier.now) (frame_of frame.now)) }
 {
     let words = words_conditions(features, datums, counts, frame.datums.as_slice());
     let others = joined_conditions(features, counts, earlier, frame);
@@ -198,7 +204,8 @@ fn lower_conditions(
     counts: &GroupCounts<'_>,
     frame: &FrameDef,
 ) -> u32
-    ensures { result ≡ min 4097 (lower_conditions features.now datums.now counts.now.points.now.rows (frame_of frame.now)) }
+    ensures { result ≡ min 4097 (lower_conditions features.now datums.now counts.now.points.now.rows
+        (frame_of frame.now)) }
 {
     if frame.lower.is_none() {
         return 0;

@@ -165,8 +165,8 @@ frame = [
 ]
 ";
 
-// Whole files, with `;` for the end of a line: what a reader tells, the points, and the text. A word in capitals stands for
-// the text of that name.
+// Whole files, with `;` for the end of a line: what a reader tells, the points, and the text. A word in capitals stands
+// for the text of that name.
 const WHOLE_FILES: &str = "\
 read 1 0 1 | SADDLE | LEAST
 read 2 2 2 | BORED | EVERYTHING
@@ -227,7 +227,8 @@ fn whole_files(rt: HostRuntime) -> Result<(), Fail> {
     Ok(())
 }
 
-// The smallest file of each code, as docs/FORMATS.md has it, with `;` for the end of a line; those of 32 and 34 stand below.
+// The smallest file of each code, as docs/FORMATS.md has it, with `;` for the end of a line; those of 32 and 34 stand
+// below.
 const SMALLEST: &str = "\
 20 0 0 | v
 21 0 0 | version = 2

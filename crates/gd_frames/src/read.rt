@@ -4,7 +4,8 @@ ghost use Rattle.toml.specs.View.{table_view};
 ghost use Rattle.gd_frames.specs.Counts.{limits};
 ghost use Rattle.gd_frames.specs.Entries.{datums_read, features_read, frames_read, placed};
 ghost use Rattle.gd_frames.specs.Facts.{IsFile};
-ghost use Rattle.gd_frames.specs.Files.{and_judged, file_in, frames, in_table, limits_from, tables_from, with_datum, with_feature, with_frame};
+ghost use Rattle.gd_frames.specs.Files.{and_judged, file_in, frames, in_table, limits_from, tables_from, with_datum};
+ghost use Rattle.gd_frames.specs.Files.{with_feature, with_frame};
 ghost use Rattle.gd_keys.specs.Keys.{is_among};
 ghost use Rattle.gd_base.specs.Causes.{Gives, input_cause};
 ghost use Rattle.gd_base.specs.Limits.{DATUMS, FEATURES, FRAMES};
@@ -101,7 +102,9 @@ fn add_feature(
     requires { length features.old.items.items < FEATURES }
     ensures names { OnOk result (length features.new.names.keys ≡ length features.old.names.keys + 1) }
     ensures items { OnOk result (length features.new.items.items ≡ length features.old.items.items + 1) }
-    ensures feature { Gives input_cause (λ _. features_read features.new) result (in_table (length features.old.items.items + 1) 1 (with_feature points.now ranges.now (features_read features.old) (table_view table.now))) }
+    ensures feature { Gives input_cause (λ _. features_read features.new) result
+        (in_table (length features.old.items.items + 1) 1 (with_feature points.now ranges.now
+        (features_read features.old) (table_view table.now))) }
 {
     let row = features.items.len() as u32 + 1;
     match read_feature(alloc, points, ranges, features, table) {
@@ -117,7 +120,8 @@ fn read_features(
     tables: &[&Table],
 ) -> Result<Listed<FeatureDef>, ReadFault>
     requires { length tables.now ≤ FEATURES }
-    ensures features { Gives input_cause features_read result (tables_from 1 (with_feature points.now ranges.now) no_entries (map (λ t. table_view t.now) tables.now)) }
+    ensures features { Gives input_cause features_read result
+        (tables_from 1 (with_feature points.now ranges.now) no_entries (map (λ t. table_view t.now) tables.now)) }
     ensures few { IfOk result (λ features. length features.names.keys ≤ FEATURES) }
 {
     let mut features = Listed::new(alloc);
@@ -142,7 +146,9 @@ fn add_datum(
     requires features { length features.now.names.keys ≤ FEATURES }
     ensures names { OnOk result (length datums.new.names.keys ≡ length datums.old.names.keys + 1) }
     ensures items { OnOk result (length datums.new.items.items ≡ length datums.old.items.items + 1) }
-    ensures datum { Gives input_cause (λ _. datums_read datums.new) result (in_table (length datums.old.items.items + 1) 2 (with_datum features.now.names.keys ranges.now (datums_read datums.old) (table_view table.now))) }
+    ensures datum { Gives input_cause (λ _. datums_read datums.new) result
+        (in_table (length datums.old.items.items + 1) 2 (with_datum features.now.names.keys ranges.now
+        (datums_read datums.old) (table_view table.now))) }
 {
     let row = datums.items.len() as u32 + 1;
     match read_datum(alloc, features, ranges, datums, table) {
@@ -162,7 +168,8 @@ fn read_datums(
 ) -> Result<Listed<DatumDef>, ReadFault>
     requires few { length tables.now ≤ DATUMS }
     requires features { length features.now.names.keys ≤ FEATURES }
-    ensures datums { Gives input_cause datums_read result (tables_from 2 (with_datum features.now.names.keys ranges.now) no_entries (map (λ t. table_view t.now) tables.now)) }
+    ensures datums { Gives input_cause datums_read result (tables_from 2
+        (with_datum features.now.names.keys ranges.now) no_entries (map (λ t. table_view t.now) tables.now)) }
     ensures few { IfOk result (λ datums. length datums.names.keys ≤ DATUMS) }
 {
     let mut datums = Listed::new(alloc);
@@ -186,7 +193,9 @@ fn read_right_frame(
 ) -> Result<FrameDef, KeyFault>
     requires features { length features.now.names.keys ≤ FEATURES }
     requires datums { length datums.now.names.keys ≤ DATUMS }
-    ensures frame { Gives key_cause frame_of result (and_judged features.now.items.items datums.now.items.items counts.now.points.now.rows (frame_in features.now.names.keys datums.now.names.keys earlier.now.names.keys (table_view table.now))) }
+    ensures frame { Gives key_cause frame_of result (and_judged features.now.items.items datums.now.items.items
+        counts.now.points.now.rows (frame_in features.now.names.keys datums.now.names.keys earlier.now.names.keys
+        (table_view table.now))) }
     ensures new { IfOk result (λ f. is_among earlier.now.names.keys f.name ≡ false) }
 {
     let frame = read_frame(alloc, features, datums, earlier, table)?;
@@ -213,7 +222,9 @@ fn add_frame(
     requires datums { length datums.now.names.keys ≤ DATUMS }
     ensures names { OnOk result (length frames.new.names.keys ≡ length frames.old.names.keys + 1) }
     ensures items { OnOk result (length frames.new.items.items ≡ length frames.old.items.items + 1) }
-    ensures frame { Gives input_cause (λ _. frames_read frames.new) result (in_table (length frames.old.items.items + 1) 3 (with_frame (features_read features.now) (datums_read datums.now) counts.now.points.now.rows (frames_read frames.old) (table_view table.now))) }
+    ensures frame { Gives input_cause (λ _. frames_read frames.new) result
+        (in_table (length frames.old.items.items + 1) 3 (with_frame (features_read features.now)
+        (datums_read datums.now) counts.now.points.now.rows (frames_read frames.old) (table_view table.now))) }
 {
     let row = frames.items.len() as u32 + 1;
     match read_right_frame(alloc, features, datums, counts, frames, table) {
@@ -235,7 +246,9 @@ fn read_all_frames(
     requires few { length tables.now ≤ FRAMES }
     requires features { length features.now.names.keys ≤ FEATURES }
     requires datums { length datums.now.names.keys ≤ DATUMS }
-    ensures frames { Gives input_cause frames_read result (tables_from 3 (with_frame (features_read features.now) (datums_read datums.now) counts.now.points.now.rows) no_entries (map (λ t. table_view t.now) tables.now)) }
+    ensures frames { Gives input_cause frames_read result (tables_from 3
+        (with_frame (features_read features.now) (datums_read datums.now) counts.now.points.now.rows) no_entries
+        (map (λ t. table_view t.now) tables.now)) }
     ensures few { IfOk result (λ frames. length frames.items.items ≤ FRAMES) }
 {
     let mut frames = Listed::new(alloc);
@@ -257,7 +270,8 @@ fn test_frame(
     frame: &FrameDef,
 ) -> Result<(), ReadFault>
     requires { length earlier.now ≤ FRAMES }
-    ensures { Gives input_cause (λ u. u) result (in_table (length (map frame_of earlier.now) + 1) 3 (limits features.now datums.now counts.now.points.now.rows (map frame_of earlier.now) (frame_of frame.now))) }
+    ensures { Gives input_cause (λ u. u) result (in_table (length (map frame_of earlier.now) + 1) 3
+        (limits features.now datums.now counts.now.points.now.rows (map frame_of earlier.now) (frame_of frame.now))) }
 {
     match limits(features, datums, counts, earlier, frame) {
         Ok(()) => Ok(()),
@@ -272,7 +286,8 @@ fn test_limits(
     frames: &[FrameDef],
 ) -> Result<(), ReadFault>
     requires { length frames.now ≤ FRAMES }
-    ensures { Gives input_cause (λ u. u) result (limits_from features.now.items.items datums.now.items.items counts.now.points.now.rows [] (map frame_of frames.now)) }
+    ensures { Gives input_cause (λ u. u) result (limits_from features.now.items.items datums.now.items.items
+        counts.now.points.now.rows [] (map frame_of frames.now)) }
 {
     for (at, frame) in frames.iter().enumerate() {
         match test_frame(

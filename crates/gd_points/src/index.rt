@@ -1,9 +1,11 @@
 // The points of a feature, found without a look at the whole table.
-ghost use Rattle.std.specs.Prelude.{◌≡◌, ◌<◌, ◌≤◌, ◌-◌, ℕ, [], true, false, None, IfOk, IfSome, drop, length, map, filter, get_or, pos, take, ◌==◌};
+ghost use Rattle.std.specs.Prelude.{◌≡◌, ◌<◌, ◌≤◌, ◌-◌, ◌==◌, ℕ, [], true, false, None, IfOk, IfSome, drop, length, map};
+ghost use Rattle.std.specs.Prelude.{filter, get_or, pos, take};
 ghost use Rattle.std.specs.List.{All, Any, range_with_len};
 ghost use Rattle.gd_base.specs.Limits.{COORDINATE, GROUP, POINTS};
 ghost use Rattle.gd_points.specs.Columns.{AreColumns, label_of};
-ghost use Rattle.gd_points.specs.Index.{IsInOrder, IsOrdered, has_group, is_of, is_of_group, key_at, key_of, numbers_where, row_at};
+ghost use Rattle.gd_points.specs.Index.{IsInOrder, IsOrdered, has_group, is_of, is_of_group, key_at, key_of};
+ghost use Rattle.gd_points.specs.Index.{numbers_where, row_at};
 ghost use Rattle.gd_points.specs.declared.index.OrderBy.TheVariants as by;
 ghost use Rattle.gd_vec.specs.Vector.{IsWithin};
 
@@ -233,7 +235,8 @@ impl<'a> PointIndex<'a> {
         self.by_group.with_key(OrderBy::Group, self.table, key)
     }
 
-    /// The least group from a number on that the points of a feature have, found by halving. `None` where they have none.
+    /// The least group from a number on that the points of a feature have, found by halving. `None` where they have
+    /// none from there on.
     pub fn next_group(&self, feature: u32, from: u32) -> Option<u32>
         ensures from { IfSome result (λ next. from ≤ next) }
         ensures within { IfSome result (λ next. next ≤ GROUP) }

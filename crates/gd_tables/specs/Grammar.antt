@@ -1,10 +1,12 @@
 -- A frame file as its whole table states it: each table has its keys in their order, and the first rule that is broken
 -- in this order is told. Lengths are in units of 0.1 micrometre.
-use Rattle.std.specs.Prelude.{ℕ, pos, Bool, true, false, List, [], ◌∷◌, map, length, Option, None, option_map, Result, Ok, Err, codes, nat_eq, nat_le, drop, take, ◌-◌, ◌==◌, ◌&&◌, if◌then◌else◌}
+use Rattle.std.specs.Prelude.{ℕ, pos, Bool, true, false, List, [], ◌∷◌, map, length, Option, None, option_map, Result, Ok}
+use Rattle.std.specs.Prelude.{Err, codes, nat_eq, nat_le, drop, take, ◌-◌, ◌==◌, ◌&&◌, if◌then◌else◌}
 use Rattle.std.specs.Cmp.Lexicographic.{pointwise}
 use Rattle.std.specs.Ordering.{int_eq}
 use Rattle.toml.specs.Data.{Data, string, Members, as_integer, get_member}
-use Rattle.gd_base.specs.Limits.{DATUMS, ENTRY, FEATURES, FRAMES, FRAME_FEATURES, SLACK, TOLERANCE, TURN, USUAL_SLACK, WORDS}
+use Rattle.gd_base.specs.Limits.{DATUMS, ENTRY, FEATURES, FRAMES, FRAME_FEATURES, SLACK, TOLERANCE, TURN}
+use Rattle.gd_base.specs.Limits.{USUAL_SLACK, WORDS}
 use Rattle.gd_base.specs.Names.{name_of}
 use Rattle.gd_tables.specs.Kinds.{Frame, is_form}
 use Rattle.gd_tables.specs.Listed.{place_of}
@@ -45,7 +47,8 @@ tables_to most d = tables d >>= (λ list. in_range (nat_le (length list) most) l
 
 -- the same, and it isn't empty
 abbrev pub some_tables_to : ℕ → Data → Result (List Members) Rule
-some_tables_to most d = tables d >>= (λ list. if length list == 0 then Err rule.Needed else in_range (nat_le (length list) most) list)
+some_tables_to most d =
+    tables d >>= (λ list. if length list == 0 then Err rule.Needed else in_range (nat_le (length list) most) list)
 
 pub record Top : Type 0 where
   pub ranges : Ranges
@@ -57,7 +60,9 @@ pub record Top : Type 0 where
   pub frames : List Members
 
 abbrev pub top_keys : List (List ℕ)
-top_keys = codes "version" ∷ codes "turn" ∷ codes "shift" ∷ codes "centre" ∷ codes "feature" ∷ codes "datum" ∷ codes "frame" ∷ []
+top_keys =
+    codes "version" ∷ codes "turn" ∷ codes "shift" ∷ codes "centre" ∷ codes "feature" ∷ codes "datum" ∷ codes "frame"
+    ∷ []
 
 unfoldable pub top_in : Members → Result Top Rule
 top_in table = do
@@ -96,7 +101,8 @@ without_direction shape.Sphere = Ok (record { x = pos 0; y = pos 0; z = pos 1 })
 without_direction _ = Err rule.Needed
 
 abbrev pub feature_keys : List (List ℕ)
-feature_keys = codes "name" ∷ codes "shape" ∷ codes "direction" ∷ codes "point" ∷ codes "radius" ∷ codes "mmc" ∷ codes "lmc" ∷ []
+feature_keys =
+    codes "name" ∷ codes "shape" ∷ codes "direction" ∷ codes "point" ∷ codes "radius" ∷ codes "mmc" ∷ codes "lmc" ∷ []
 
 unfoldable pub feature_in : Table → Ranges → List (List ℕ) → Members → Result (List ℕ × FeatureDef) Rule
 feature_in points ranges earlier table = do

@@ -52,8 +52,8 @@ pub struct FrameDef {
     pub tolerance: u32,
     pub datums: Vec<DatumRef>,
     pub material: Material,
-    /// How much of a profile's zone lies on the side of the greater distances: along a plane's direction, away from an axis
-    /// or a centre.
+    /// How much of a profile's zone lies on the side of the greater distances: along a plane's direction, away from an
+    /// axis or a centre. `None` where half of it does.
     pub above: Option<u32>,
     /// The tolerance of the lower segment of a composite position frame.
     pub lower: Option<u32>,

@@ -34,7 +34,8 @@ pub fn read_frame(
 ) -> Result<FrameDef, KeyFault>
     requires features { length features.now.names.keys ≤ FEATURES }
     requires datums { length datums.now.names.keys ≤ DATUMS }
-    ensures frame { Gives key_cause frame_of result (frame_in features.now.names.keys datums.now.names.keys earlier.now.names.keys (table_view table.now)) }
+    ensures frame { Gives key_cause frame_of result (frame_in features.now.names.keys datums.now.names.keys
+        earlier.now.names.keys (table_view table.now)) }
     ensures new { IfOk result (λ f. is_among earlier.now.names.keys f.name ≡ false) }
 {
     only_keys(
@@ -93,7 +94,8 @@ fn read_features(
     features: &Listed<FeatureDef>,
 ) -> Result<Vec<u32>, KeyFault>
     requires { length features.now.names.keys ≤ FEATURES }
-    ensures { Gives key_cause (λ v. v.items) result (needed (codes "features") (features_in features.now.names.keys kind) (table_view table.now)) }
+    ensures { Gives key_cause (λ v. v.items) result (needed (codes "features")
+        (features_in features.now.names.keys kind) (table_view table.now)) }
 {
     features_in(alloc, needed(table, "features")?, kind, features)
 }
@@ -111,7 +113,8 @@ fn read_words(
     datums: &Listed<DatumDef>,
 ) -> Result<Vec<DatumRef>, KeyFault>
     requires { length datums.now.names.keys ≤ DATUMS }
-    ensures { Gives key_cause (λ v. v.items) result (default_to [] key.now (words_in datums.now.names.keys) (table_view table.now)) }
+    ensures { Gives key_cause (λ v. v.items) result (default_to [] key.now (words_in datums.now.names.keys)
+        (table_view table.now)) }
 {
     match value_at(table, key) {
         Some(value) => words_in(alloc, value, datums),
@@ -120,7 +123,8 @@ fn read_words(
 }
 
 fn read_material(table: &Table) -> Result<Material, KeyFault>
-    ensures { Gives key_cause (λ m. m) result (default_to material.Rfs (codes "material") (word material_of) (table_view table.now)) }
+    ensures { Gives key_cause (λ m. m) result (default_to material.Rfs (codes "material") (word material_of)
+        (table_view table.now)) }
 {
     match value_at(table, "material") {
         Some(value) => material_in(value),

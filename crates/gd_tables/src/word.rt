@@ -57,7 +57,9 @@ fn most_features(kind: Kind) -> usize
 }
 
 fn feature_names(alloc: Global, kind: Kind, texts: &[&str]) -> Result<Vec<Name>, KeyFault>
-    ensures { Gives key_cause (λ v. v.items) result (or_broken (if nat_le 1 (length texts.now) && nat_le (length texts.now) (most_features kind) then each_as name_of (map (λ t. t.now) texts.now) else None) rule.Range) }
+    ensures { Gives key_cause (λ v. v.items) result (or_broken
+        (if nat_le 1 (length texts.now) && nat_le (length texts.now) (most_features kind) then each_as name_of
+        (map (λ t. t.now) texts.now) else None) rule.Range) }
 {
     if 1 <= texts.len() && texts.len() <= most_features(kind) {
         names_of(alloc, texts)
@@ -68,7 +70,8 @@ fn feature_names(alloc: Global, kind: Kind, texts: &[&str]) -> Result<Vec<Name>,
 
 // The names that texts are.
 fn names_of(alloc: Global, texts: &[&str]) -> Result<Vec<Name>, KeyFault>
-    ensures { Gives key_cause (λ v. v.items) result (or_broken (each_as name_of (map (λ t. t.now) texts.now)) rule.Range) }
+    ensures { Gives key_cause (λ v. v.items) result (or_broken (each_as name_of (map (λ t. t.now) texts.now))
+        rule.Range) }
 {
     let mut names = Vec::new(alloc);
     for text in texts {
@@ -101,7 +104,8 @@ fn places_of<T: Drop>(
     names: &IndexSet<Name>,
 ) -> Result<Vec<u32>, KeyFault>
     requires { length features.now.names.keys ≤ FEATURES }
-    ensures { Gives key_cause (λ v. v.items) result (or_broken (each_as (place_of features.now.names.keys) names.now.keys) rule.Feature) }
+    ensures { Gives key_cause (λ v. v.items) result (or_broken
+        (each_as (place_of features.now.names.keys) names.now.keys) rule.Feature) }
 {
     let mut places = Vec::new(alloc);
     for name in names {
@@ -130,7 +134,9 @@ pub fn words_in<T: Drop>(
 }
 
 fn few_words(alloc: Global, texts: &[&str]) -> Result<Vec<Word>, KeyFault>
-    ensures { Gives key_cause (λ v. map seen v.items) result (or_broken (if nat_le (length texts.now) WORDS then each_as word_of (map (λ t. t.now) texts.now) else None) rule.Range) }
+    ensures { Gives key_cause (λ v. map seen v.items) result
+        (or_broken (if nat_le (length texts.now) WORDS then each_as word_of (map (λ t. t.now) texts.now) else None)
+        rule.Range) }
 {
     if texts.len() <= limits::WORDS {
         words_of(alloc, texts)
@@ -141,7 +147,8 @@ fn few_words(alloc: Global, texts: &[&str]) -> Result<Vec<Word>, KeyFault>
 
 // The words that texts are.
 fn words_of(alloc: Global, texts: &[&str]) -> Result<Vec<Word>, KeyFault>
-    ensures { Gives key_cause (λ v. map seen v.items) result (or_broken (each_as word_of (map (λ t. t.now) texts.now)) rule.Range) }
+    ensures { Gives key_cause (λ v. map seen v.items) result
+        (or_broken (each_as word_of (map (λ t. t.now) texts.now)) rule.Range) }
 {
     let mut words = Vec::new(alloc);
     for text in texts {
@@ -190,7 +197,8 @@ fn datums_of<T: Drop>(
     words: &[Word],
 ) -> Result<Vec<DatumRef>, KeyFault>
     requires { length datums.now.names.keys ≤ DATUMS }
-    ensures { Gives key_cause (λ v. v.items) result (or_broken (each_as (datum_of datums.now.names.keys) (map seen words.now)) rule.Datum) }
+    ensures { Gives key_cause (λ v. v.items) result (or_broken
+        (each_as (datum_of datums.now.names.keys) (map seen words.now)) rule.Datum) }
 {
     let mut refs = Vec::new(alloc);
     for word in words {
