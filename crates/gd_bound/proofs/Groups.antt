@@ -9,12 +9,12 @@ use Rattle.gd_bound.specs.Evidence.{named_row, names, passes_by_more, refutes_by
 use Rattle.gd_points.specs.declared.table.Row.{Row}
 use Rattle.gd_quat.specs.Formulas.{Ends}
 use Rattle.gd_zone.proofs.Pairs.{all-is, more-above, more-falls, z-refl}
-use Rattle.gd_zone.specs.Conditions.{is_of_feature, length2_of}
+use Rattle.gd_zone.specs.Conditions.{belongs, is_of_feature, length2_of}
 use Rattle.gd_zone.specs.Extremes.{AreExtremes, at_narrowest}
 use Rattle.gd_zone.specs.Refutations.{is_more}
 use Rattle.gd_zone.specs.declared.condition.Condition.{Condition}
 use Rattle.gd_zone.specs.declared.condition.Demand.{Demand}
-use Rattle.gd_zone.specs.declared.condition.Demand.TheVariants.{Contact, HugInner, HugOuter}
+use Rattle.gd_zone.specs.declared.condition.Demand.TheVariants.{Contact, HugInner, HugOuter, Spread}
 use Rattle.gd_zone.specs.declared.condition.Surface.{Surface}
 
 pub above-all : (s : Surface) (hi : ℤ) (vs : List Ends) (least greatest : Ends) → AreExtremes vs least greatest → is_more least.lo hi (length2_of s) ≡ list_all (λ v. is_more v.lo hi (length2_of s)) vs
@@ -52,6 +52,10 @@ module _ (c : Condition) (rows : List Row) (e : ℕ → Ends) (vs : List Ends) (
   pub outer-by : (t : ℤ) → d ≡ HugOuter t → (names (is_of_feature c) rows a && (b == 0)) ≡ true → r ≡ list_all (λ v. passes_by_more c.surface t (e (a - 1)) v) vs → r ≡ refutes_by c rows d e vs a b
   unfolding refutes_by
   outer-by t is n l = subst (λ z. r ≡ refutes_by c rows z e vs a b) (sym is) (and-front (names (is_of_feature c) rows a && (b == 0)) r (list_all (λ v. passes_by_more c.surface t (e (a - 1)) v) vs) n l)
+
+  pub spread-by : (t : ℤ) → d ≡ Spread t → (names (belongs c) rows a && names (belongs c) rows b) ≡ true → r ≡ passes_by_more c.surface t (e (a - 1)) (e (b - 1)) → r ≡ refutes_by c rows d e vs a b
+  unfolding refutes_by
+  spread-by t is n l = subst (λ z. r ≡ refutes_by c rows z e vs a b) (sym is) (and-front (names (belongs c) rows a && names (belongs c) rows b) r (passes_by_more c.surface t (e (a - 1)) (e (b - 1))) n l)
 
 -- ---- the row of a number from 1
 pub row-named : (rows : List Row) (n : ℕ) → 1 ≤ n → slice_get rows (n - 1) ≡ named_row rows n

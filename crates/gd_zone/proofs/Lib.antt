@@ -7,6 +7,7 @@ pub mod Outermost
 pub mod Pairs
 pub mod Placing
 pub mod Roots
+pub mod Shorts
 pub mod Sizes
 pub mod Sound
 pub mod Spreads

@@ -1,24 +1,21 @@
 // The value of a point on a surface.
-ghost use Rattle.std.specs.Prelude.{◌≡◌, ◌+◌, ◌*◌, ◌^◌, ◌≤◌, ◌*ℤ◌, ◌≤ℤ◌, pos, unsigned_abs};
-ghost use Rattle.gd_quat.specs.Boxes.{Fits, VectorFits};
-ghost use Rattle.gd_quat.specs.Formulas.{alone, difference, ends, moved_formula, multiple, square, sum};
-ghost use Rattle.gd_quat.specs.Formulas.{turned_formula, vector_ends};
+ghost use Rattle.std.specs.Prelude.{◌≡◌, ◌^◌, ◌≤◌, ◌≤ℤ◌, pos, unsigned_abs};
+ghost use Rattle.gd_quat.specs.Boxes.{Fits};
+ghost use Rattle.gd_quat.specs.Formulas.{difference, ends, multiple, square, sum};
 ghost use Rattle.gd_vec.specs.Vector.{IsWithin};
 ghost use Rattle.gd_zone.specs.Boxes.{IsPlaced, placed_ends};
 ghost use Rattle.gd_zone.specs.Conditions.{IsSurface};
-ghost use Rattle.gd_zone.specs.Tests.{demanded_ends};
-ghost use Rattle.gd_zone.specs.Values.{EnclosesValue, IsSized, along, across, from_point, image_ends, squares_of};
-ghost use Rattle.gd_zone.specs.Values.{still_image};
-ghost use Rattle.gd_zone.specs.Values.{surface_value, value_ends};
+ghost use Rattle.gd_zone.specs.Shorts.{ShortFits, ShortMatrixFits, ShortVectorFits, lens_value, moved_value};
+ghost use Rattle.gd_zone.specs.Shorts.{short_ends, short_vector};
+ghost use Rattle.gd_zone.specs.Values.{EnclosesValue, IsSized, across, along, squares_of, value_ends};
 
-use crate::condition::{Condition, Demand, Surface};
+use crate::condition::Surface;
+use crate::lens::{from_surface, lens_by};
 use crate::placed::Placed;
-use gd_interval::{Iv, add, point, scale, sub};
-use gd_quat::{VecBox, moved, turned};
+use crate::shape::{Lens, Short, ShortVec};
+use crate::short::{apart, moved, scaled, total, turned, widened};
+use gd_interval::{Iv, add};
 use gd_vec::V3;
-
-// A unit in fine units.
-const FINE: i128 = 1 << 16;
 
 /// The value of a point at every placement of a box. For a plane it is the distance times the direction's length, in fine
 /// units; for an axis and a ball the squared distance times the direction's squared length, in squares of fine units.
@@ -35,47 +32,6 @@ pub fn value(surface: &Surface, placed: &Placed, offset: u32, v: &V3) -> Iv
     value_on(surface, placed, offset, v)
 }
 
-// What the demand of a condition looks at: a spread along a direction only at the turned point, since the rest cancels.
-#[inline]
-pub fn demanded(condition: &Condition, placed: &Placed, v: &V3) -> Iv
-    requires surface { IsSurface condition.now.surface }
-    requires placed { IsPlaced placed.now }
-    requires v { IsWithin (2 ^ 27) v.now }
-    ensures ends { ends result ≡ demanded_ends condition.now.surface condition.now.demand (placed_ends placed.now)
-        condition.now.offset v.now }
-    ensures size { IsSized condition.now.surface result }
-{
-    match (condition.surface, condition.demand) {
-        (Surface::Plane { direction, .. }, Demand::Spread { .. }) => turned_along(
-            &direction, placed, v,
-        ),
-        _ => value(&condition.surface, placed, condition.offset, v),
-    }
-}
-
-// How far the turned vector lies along a direction.
-#[inline]
-fn turned_along(direction: &V3, placed: &Placed, v: &V3) -> Iv
-    requires direction { IsWithin (2 ^ 10) direction.now }
-    requires placed { IsPlaced placed.now }
-    requires v { IsWithin (2 ^ 27) v.now }
-    ensures ends { ends result ≡ along direction.now (turned_formula (placed_ends placed.now).matrix v.now) }
-    ensures size { Fits (2 ^ 60) result }
-{
-    dotted(direction, &turned_by(placed, v))
-}
-
-// The turned vector, in fine units.
-#[inline]
-fn turned_by(placed: &Placed, v: &V3) -> VecBox
-    requires placed { IsPlaced placed.now }
-    requires v { IsWithin (2 ^ 27) v.now }
-    ensures ends { vector_ends result ≡ turned_formula (placed_ends placed.now).matrix v.now }
-    ensures size { VectorFits (2 ^ 48) result }
-{
-    turned(&placed.matrix, v)
-}
-
 // The value, by its formula.
 #[inline]
 fn value_on(surface: &Surface, placed: &Placed, offset: u32, v: &V3) -> Iv
@@ -85,116 +41,55 @@ fn value_on(surface: &Surface, placed: &Placed, offset: u32, v: &V3) -> Iv
     ensures ends { ends result ≡ value_ends surface.now (placed_ends placed.now) offset v.now }
     ensures size { IsSized surface.now result }
 {
-    on_surface(surface, &image(placed, offset, v))
+    let lens = lens_by(placed, &from_surface(surface, placed, offset));
+    through(surface, &lens, v)
 }
 
-// The value of an image.
+// The value of a point through a lens.
 #[inline]
-fn on_surface(surface: &Surface, x: &VecBox) -> Iv
+pub fn through(surface: &Surface, lens: &Lens, v: &V3) -> Iv
     requires surface { IsSurface surface.now }
-    requires x { VectorFits (2 ^ 47 + 2 ^ 46) x.now }
-    ensures ends { ends result ≡ surface_value surface.now (vector_ends x.now) }
+    requires matrix { ShortMatrixFits (2 ^ 32) lens.now.matrix }
+    requires by { ShortVectorFits (2 ^ 47) lens.now.by }
+    requires v { IsWithin (2 ^ 27) v.now }
+    ensures ends { ends result ≡ lens_value surface.now lens.now v.now }
+    ensures size { IsSized surface.now result }
+{
+    on_surface(surface, &moved(&turned(&lens.matrix, v), &lens.by))
+}
+
+// The value of a turned and moved point.
+#[inline]
+fn on_surface(surface: &Surface, y: &ShortVec) -> Iv
+    requires surface { IsSurface surface.now }
+    requires y { ShortVectorFits (2 ^ 48) y.now }
+    ensures ends { ends result ≡ moved_value surface.now (short_vector y.now) }
     ensures size { IsSized surface.now result }
 {
     match surface {
-        Surface::Plane { direction, point } => dotted(direction, &less(x, point)),
-        Surface::Axis { direction, point } => squared(&crossed(direction, &less(x, point))),
-        Surface::Ball { point } => squared(&less(x, point)),
+        Surface::Plane { direction, .. } => wide(dotted(direction, y)),
+        Surface::Axis { direction, .. } => squared(&crossed(direction, y)),
+        Surface::Ball { .. } => squared_image(y),
     }
 }
 
-// The image of a point, in fine units.
+// A value along a direction in 128 bits.
 #[inline]
-pub fn image(placed: &Placed, offset: u32, v: &V3) -> VecBox
-    requires placed { IsPlaced placed.now }
-    requires v { IsWithin (2 ^ 27) v.now }
-    ensures ends { vector_ends result ≡ image_ends (placed_ends placed.now) offset v.now }
-    ensures size { VectorFits (2 ^ 47 + 2 ^ 46) result }
+fn wide(a: Short) -> Iv
+    requires { ShortFits (2 ^ 60) a }
+    ensures ends { ends result ≡ short_ends a }
+    ensures size { Fits (2 ^ 60) result }
 {
-    let still = still(placed, v);
-    match offset {
-        1 => shifted(&still, &placed.first),
-        2 => shifted(&still, &placed.second),
-        _ => still,
-    }
-}
-
-// The image with no offset.
-#[inline]
-fn still(placed: &Placed, v: &V3) -> VecBox
-    requires placed { IsPlaced placed.now }
-    requires v { IsWithin (2 ^ 27) v.now }
-    ensures ends { vector_ends result ≡ still_image (placed_ends placed.now) v.now }
-    ensures size { VectorFits (2 ^ 47) result }
-{
-    moved(&turned(&placed.matrix, v), &placed.shift)
-}
-
-// The sum of two boxes of images.
-#[inline]
-fn shifted(x: &VecBox, by: &VecBox) -> VecBox
-    requires x { VectorFits (2 ^ 47) x.now }
-    requires by { VectorFits (2 ^ 45) by.now }
-    ensures ends { vector_ends result ≡ moved_formula (vector_ends x.now) (vector_ends by.now) }
-    ensures size { VectorFits (2 ^ 47 + 2 ^ 45) result }
-{
-    moved(x, by)
-}
-
-// The box less a point in units.
-#[inline]
-fn less(x: &VecBox, a: &V3) -> VecBox
-    requires x { VectorFits (2 ^ 47 + 2 ^ 46) x.now }
-    requires a { IsWithin (2 ^ 26) a.now }
-    ensures ends { vector_ends result ≡ from_point (vector_ends x.now) a.now }
-    ensures size { VectorFits (2 ^ 48) result }
-{
-    VecBox {
-        x: less_entry(x.x, a.x),
-        y: less_entry(x.y, a.y),
-        z: less_entry(x.z, a.z),
-    }
-}
-
-// An entry less a coordinate in units.
-#[inline]
-fn less_entry(x: Iv, a: i64) -> Iv
-    requires x { Fits (2 ^ 47 + 2 ^ 46) x }
-    requires a { unsigned_abs a ≤ 2 ^ 26 }
-    ensures ends { ends result ≡ difference (ends x) (alone (pos (2 ^ 16) *ℤ a)) }
-    ensures size { Fits (2 ^ 48) result }
-{
-    sub(x, point(fine(a)))
-}
-
-// A coordinate in fine units.
-#[inline]
-fn fine(a: i64) -> i128
-    requires { unsigned_abs a ≤ 2 ^ 26 }
-    ensures value { result ≡ pos (2 ^ 16) *ℤ a }
-    ensures size { unsigned_abs result ≤ 2 ^ 42 }
-{
-    FINE * i128::from(a)
-}
-
-// The product of an entry and a direction's entry.
-#[inline]
-fn scaled(a: Iv, factor: i64) -> Iv
-    requires a { Fits (2 ^ 48) a }
-    requires factor { unsigned_abs factor ≤ 2 ^ 10 }
-    ensures ends { ends result ≡ multiple (ends a) factor }
-    ensures size { Fits (2 ^ 58) result }
-{
-    scale(a, i128::from(factor))
+    widened(a)
 }
 
 // The sum of the products with a direction.
 #[inline]
-fn dotted(direction: &V3, y: &VecBox) -> Iv
+fn dotted(direction: &V3, y: &ShortVec) -> Short
     requires direction { IsWithin (2 ^ 10) direction.now }
-    requires y { VectorFits (2 ^ 48) y.now }
-    ensures ends { ends result ≡ along direction.now (vector_ends y.now) }
-    ensures size { Fits (2 ^ 60) result }
+    requires y { ShortVectorFits (2 ^ 48) y.now }
+    ensures ends { short_ends result ≡ along direction.now (short_vector y.now) }
+    ensures size { ShortFits (2 ^ 60) result }
 {
     sum_of(
         scaled(y.x, direction.x),
@@ -203,38 +98,27 @@ fn dotted(direction: &V3, y: &VecBox) -> Iv
     )
 }
 
-// The sum of three.
+// The sum of three products with entries of a direction.
 #[inline]
-fn sum_of(a: Iv, b: Iv, c: Iv) -> Iv
-    requires a { Fits (2 ^ 58) a }
-    requires b { Fits (2 ^ 58) b }
-    requires c { Fits (2 ^ 58) c }
-    ensures ends { ends result ≡ sum (sum (ends a) (ends b)) (ends c) }
-    ensures size { Fits (2 ^ 60) result }
+fn sum_of(a: Short, b: Short, c: Short) -> Short
+    requires a { ShortFits (2 ^ 58) a }
+    requires b { ShortFits (2 ^ 58) b }
+    requires c { ShortFits (2 ^ 58) c }
+    ensures ends { short_ends result ≡ sum (sum (short_ends a) (short_ends b)) (short_ends c) }
+    ensures size { ShortFits (2 ^ 60) result }
 {
-    add(pair_of(a, b), c)
-}
-
-// The sum of two of them.
-#[inline]
-fn pair_of(a: Iv, b: Iv) -> Iv
-    requires a { Fits (2 ^ 58) a }
-    requires b { Fits (2 ^ 58) b }
-    ensures ends { ends result ≡ sum (ends a) (ends b) }
-    ensures size { Fits (2 ^ 59) result }
-{
-    add(a, b)
+    total(a, b, c)
 }
 
 // The cross product with a direction.
 #[inline]
-fn crossed(direction: &V3, y: &VecBox) -> VecBox
+fn crossed(direction: &V3, y: &ShortVec) -> ShortVec
     requires direction { IsWithin (2 ^ 10) direction.now }
-    requires y { VectorFits (2 ^ 48) y.now }
-    ensures ends { vector_ends result ≡ across direction.now (vector_ends y.now) }
-    ensures size { VectorFits (2 ^ 59) result }
+    requires y { ShortVectorFits (2 ^ 48) y.now }
+    ensures ends { short_vector result ≡ across direction.now (short_vector y.now) }
+    ensures size { ShortVectorFits (2 ^ 59) result }
 {
-    VecBox {
+    ShortVec {
         x: minor(y.z, direction.y, y.y, direction.z),
         y: minor(y.x, direction.z, y.z, direction.x),
         z: minor(y.y, direction.x, y.x, direction.y),
@@ -243,43 +127,54 @@ fn crossed(direction: &V3, y: &VecBox) -> VecBox
 
 // The product of one entry less that of another.
 #[inline]
-fn minor(a: Iv, by: i64, b: Iv, less: i64) -> Iv
-    requires a { Fits (2 ^ 48) a }
+fn minor(a: Short, by: i64, b: Short, less: i64) -> Short
+    requires a { ShortFits (2 ^ 48) a }
     requires by { unsigned_abs by ≤ 2 ^ 10 }
-    requires b { Fits (2 ^ 48) b }
+    requires b { ShortFits (2 ^ 48) b }
     requires less { unsigned_abs less ≤ 2 ^ 10 }
-    ensures ends { ends result ≡ difference (multiple (ends a) by) (multiple (ends b) less) }
-    ensures size { Fits (2 ^ 59) result }
+    ensures ends { short_ends result ≡ difference (multiple (short_ends a) by) (multiple (short_ends b) less) }
+    ensures size { ShortFits (2 ^ 59) result }
 {
-    difference_of(scaled(a, by), scaled(b, less))
+    apart(scaled(a, by), scaled(b, less))
 }
 
-// The difference of two products.
+// The sum of the squares of an image.
 #[inline]
-fn difference_of(a: Iv, b: Iv) -> Iv
-    requires a { Fits (2 ^ 58) a }
-    requires b { Fits (2 ^ 58) b }
-    ensures ends { ends result ≡ difference (ends a) (ends b) }
-    ensures size { Fits (2 ^ 59) result }
+fn squared_image(y: &ShortVec) -> Iv
+    requires { ShortVectorFits (2 ^ 48) y.now }
+    ensures ends { ends result ≡ squares_of (short_vector y.now) }
+    ensures size { Fits (2 ^ 120) result }
+    ensures not_negative { pos 0 ≤ℤ result.lo }
 {
-    sub(a, b)
+    squared(y)
 }
 
 // The sum of the squares.
 #[inline]
 #[tactic(auto, unfolding(crate::specs::Values::squares_of))]
-fn squared(y: &VecBox) -> Iv
-    requires { VectorFits (2 ^ 59) y.now }
-    ensures ends { ends result ≡ squares_of (vector_ends y.now) }
+fn squared(y: &ShortVec) -> Iv
+    requires { ShortVectorFits (2 ^ 59) y.now }
+    ensures ends { ends result ≡ squares_of (short_vector y.now) }
     ensures size { Fits (2 ^ 120) result }
     ensures not_negative { pos 0 ≤ℤ result.lo }
 {
     squares_sum(square_of(y.x), square_of(y.y), square_of(y.z))
 }
 
-// The square of an entry.
+// The square of an entry, in 128 bits.
 #[inline]
-fn square_of(a: Iv) -> Iv
+fn square_of(a: Short) -> Iv
+    requires { ShortFits (2 ^ 59) a }
+    ensures ends { ends result ≡ square (short_ends a) }
+    ensures size { Fits (2 ^ 118) result }
+    ensures not_negative { pos 0 ≤ℤ result.lo }
+{
+    wide_square(widened(a))
+}
+
+// The square of an interval.
+#[inline]
+fn wide_square(a: Iv) -> Iv
     requires { Fits (2 ^ 59) a }
     ensures ends { ends result ≡ square (ends a) }
     ensures size { Fits (2 ^ 118) result }

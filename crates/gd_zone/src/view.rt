@@ -4,13 +4,16 @@ ghost use Rattle.gd_base.specs.Limits.{COORDINATE};
 ghost use Rattle.gd_quat.specs.Formulas.{ends};
 ghost use Rattle.gd_vec.specs.Vector.{IsWithin, difference};
 ghost use Rattle.gd_zone.specs.Boxes.{IsPlaced, placed_ends};
-ghost use Rattle.gd_zone.specs.Conditions.{IsCondition};
+ghost use Rattle.gd_zone.specs.Conditions.{IsCondition, IsSurface};
 ghost use Rattle.gd_zone.specs.Extremes.{ends_by, row_at};
+ghost use Rattle.gd_zone.specs.Shorts.{IsLens, moves_of};
 ghost use Rattle.gd_zone.specs.Values.{IsSized};
 
+use crate::lens::lens_of;
 use crate::placed::Placed;
+use crate::shape::Lens;
 use crate::subject::Subject;
-use crate::values::demanded;
+use crate::values::through;
 use gd_interval::Iv;
 use gd_vec::V3;
 
@@ -20,13 +23,17 @@ pub struct View<'a> {
     pub subject: &'a Subject<'a>,
     pub base: &'a V3,
     pub placed: &'a Placed,
+    lens: Lens,
     ghost based: { IsWithin COORDINATE base.now },
     ghost held: { IsPlaced placed.now },
+    ghost seen: { IsLens (placed_ends placed.now).matrix (moves_of subject.now.condition.surface
+        subject.now.condition.demand (placed_ends placed.now) subject.now.condition.offset) lens },
 }
 
 impl<'a> View<'a> {
     /// A condition with its points over a box of placements.
     pub fn of(subject: &'a Subject<'a>, base: &'a V3, placed: &'a Placed) -> View<'a>
+        requires surface { IsSurface subject.now.condition.surface }
         requires base { IsWithin COORDINATE base.now }
         requires placed { IsPlaced placed.now }
         ensures condition { result.subject.now.condition ≡ subject.now.condition }
@@ -38,6 +45,7 @@ impl<'a> View<'a> {
             subject,
             base,
             placed,
+            lens: lens_of(&subject.condition, placed),
         }
     }
 
@@ -51,9 +59,9 @@ impl<'a> View<'a> {
             self.now.subject.now.condition self.now.subject.now.index.now.table.now.rows number }
         ensures size { IsSized self.now.subject.now.condition.surface result }
     {
-        demanded(
-            &self.subject.condition,
-            self.placed,
+        through(
+            &self.subject.condition.surface,
+            &self.lens,
             &self.from_base(number),
         )
     }
