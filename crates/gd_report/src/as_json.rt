@@ -35,8 +35,12 @@ fn group_value(alloc: Global, group: &GroupVerdict) -> Result<Value, AllocError>
 {
     let name = group.label.text();
     match group.verdict {
-        Verdict::Accept { level } => { json!(in alloc; {"level": level, "name": name, "verdict": "accept"}) }
-        Verdict::Reject { leaves } => { json!(in alloc; {"leaves": leaves, "name": name, "verdict": "reject"}) }
+        Verdict::Accept { level } => {
+            json!(in alloc; {"level": level, "name": name, "verdict": "accept"})
+        }
+        Verdict::Reject { leaves } => {
+            json!(in alloc; {"leaves": leaves, "name": name, "verdict": "reject"})
+        }
         Verdict::StillOpen(counts) => open_value(alloc, name, counts),
     }
 }
@@ -52,11 +56,7 @@ fn group_values(alloc: Global, groups: &[GroupVerdict]) -> Result<Vec<Value>, Al
     Ok(values)
 }
 
-fn report_value(
-    alloc: Global,
-    groups: &[GroupVerdict],
-    ending: Ending,
-) -> Result<Value, AllocError>
+fn report_value(alloc: Global, groups: &[GroupVerdict], ending: Ending) -> Result<Value, AllocError>
     ensures { IfOk result (λ value. view value ≡ report_data groups.now (status_of ending)) }
 {
     let status = ending.status().0;

@@ -78,11 +78,7 @@ fn verdict_words(alloc: Global, verdict: Verdict) -> Result<String, AllocError>
 }
 
 /// The line of a group by its number from 1. It ends in LF.
-pub fn group_line(
-    alloc: Global,
-    number: usize,
-    group: &GroupVerdict,
-) -> Result<String, AllocError>
+pub fn group_line(alloc: Global, number: usize, group: &GroupVerdict) -> Result<String, AllocError>
     ensures { IfOk result (λ text. string_bytes text ≡ group_text number group.now) }
 {
     let label = group.label.text();

@@ -51,9 +51,11 @@ returns-clause-fits g c =
     let of = of-tasks q tasks c.args.budget c.in_ok-judged.judged.verdicts.items _ c.in_ok-judged.ensures in
     let right = rights q g.T.Task.feasible g.T.Task.inside g.T.Task.assignment c.show_laws.ensures tasks c.requires.numbers in
     let count = length-map tasks q in
-    let bounds = certificate_in_bounds (map q tasks) c.args.budget c.in_ok-judged.judged.verdicts.items _ right (rw count c.requires.some) (rw count c.requires.few) c.requires.budget of in
-    (bounds, certificate_is_short (map q tasks) c.args.budget c.in_ok-judged.judged.verdicts.items _
-      (grids q g.T.Task.feasible g.T.Task.inside g.T.Task.assignment c.show_laws.ensures tasks) (rw count c.requires.few) c.requires.budget bounds of)
+    let bounds = certificate_in_bounds (map q tasks) c.args.budget c.in_ok-judged.judged.verdicts.items _ right (rw count c.requires.some) (rw count c.requires.few) c.requires.budget of in (
+      bounds,
+      certificate_is_short (map q tasks) c.args.budget c.in_ok-judged.judged.verdicts.items _
+          (grids q g.T.Task.feasible g.T.Task.inside g.T.Task.assignment c.show_laws.ensures tasks) (rw count c.requires.few) c.requires.budget bounds of,
+    )
 
 pub returns-clause-means : goal.returns-clause-means
 returns-clause-means g c =
@@ -63,4 +65,4 @@ returns-clause-means g c =
     let right = rights q g.T.Task.feasible g.T.Task.inside g.T.Task.assignment c.show_laws.ensures tasks c.requires.numbers in
     judged_meant q g.T.Task.feasible g.T.Task.inside g.T.Task.assignment c.show_laws.ensures tasks (c.args.budget / length tasks) c.in_ok-judged.judged.verdicts.items _ c.in_ok-judged.ensures
     (judged_right (map q tasks) (c.args.budget / length tasks) c.in_ok-judged.judged.verdicts.items _ right
-      (share_is_small (map q tasks) c.args.budget c.in_ok-judged.judged.verdicts.items _ c.requires.budget of) c.in_ok-judged.ensures)
+    (share_is_small (map q tasks) c.args.budget c.in_ok-judged.judged.verdicts.items _ c.requires.budget of) c.in_ok-judged.ensures)

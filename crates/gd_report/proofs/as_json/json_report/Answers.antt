@@ -13,6 +13,6 @@ returns c =
     let is = c.in_ok-value.ensures in
     let written = c.in_ok-text.ensures.text (ap has_float is ∙ report_has_no_float groups status) ∙ ap compact_text is in
     let whole : string_bytes c.push_str.new.self ≡ report_json groups =
-        c.in_ok-push_str.ensures.bytes ∙ ap (λ t. t ++ codes "\n") written ∙ report_is groups status
-        ∙ ap (λ e. codes "{\"groups\":[" ++ (groups_json groups ++ (codes "],\"status\":" ++ (decimal (status_of e) ++ codes "}\n")))) c.of_groups-ending.ensures in
+    c.in_ok-push_str.ensures.bytes ∙ ap (λ t. t ++ codes "\n") written ∙ report_is groups status
+    ∙ ap (λ e. codes "{\"groups\":[" ++ (groups_json groups ++ (codes "],\"status\":" ++ (decimal (status_of e) ++ codes "}\n")))) c.of_groups-ending.ensures in
     rw (whole, c.of_groups-ending.ensures) refl
