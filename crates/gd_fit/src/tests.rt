@@ -32,7 +32,7 @@ const PLATE: &[u8] =
 const MOVED: &[u8] =
     b"feature,group,x,y,z\nbase,1,100000,100000,0\nbase,2,1900000,100000,4\nbase,3,1000000,900000,6\nback,1,300000,2,50000\nback,2,1700000,0,50000\nleft,1,3,500000,50000\nh1,0,200020,199990,0\nh1,0,200030,199990,100000\nh2,0,1799990,200015,0\nh2,0,1799990,200020,100000\nh3,0,200000,800040,0\nh3,0,200000,800040,100000\nh4,0,1800500,800000,0\nh4,0,1800500,800000,100000\n";
 
-// The first points of the plate are about the origin of its coordinates, so a range lies about the first of them.
+// Placements about the plate as it was measured.
 fn ranges(turn: u32, shift: u32) -> Ranges
     ensures { AreRanges result }
 {
