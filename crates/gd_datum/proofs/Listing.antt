@@ -1,39 +1,12 @@
 -- Lists that a loop makes, one step on.
-use Rattle.std.proofs.Common.{◌≡◌, ◌∙◌, ap, refl, sym, ℕ, zero, suc, ◌+◌, ◌-◌, ◌<◌, ◌≤◌, Bool, not, cond, inl, inr, List, [], ◌∷◌, ◌++◌, length, filter, get_or, take, nat_eq, arith, Option, Some, None}
+use Rattle.std.proofs.Common.{◌≡◌, ◌∙◌, ap, refl, sym, ℕ, zero, suc, ◌+◌, ◌-◌, ◌<◌, ◌≤◌, Bool, true, false, List, [], ◌∷◌, ◌++◌, length, filter, get_or, take, arith, Option, Some, None}
 use Rattle.std.proofs.lemmas.Option.{none-some}
 use Rattle.gd_datum.specs.Listed.{listed_at}
-use Rattle.std.specs.List.{flat_map, list_any}
-use Rattle.std.proofs.lemmas.Bool.{cases_Bool}
-use Rattle.std.proofs.Math.Dec.{eqb-suc-zero}
+use Rattle.std.specs.List.{flat_map}
 use Rattle.std.proofs.lemmas.Grind.{flat_map-append}
-use Rattle.std.proofs.lemmas.List.{append-nil, length-map, take_more}
-use Rattle.std.proofs.lemmas.List.Elements.{filter-append}
-use Rattle.gd_frames.specs.Groups.{has_group, is_of, numbers_from}
-use Rattle.gd_points.specs.Index.{is_of_group, numbers_where}
+use Rattle.std.proofs.lemmas.List.{append-nil, take_more}
+use Rattle.gd_frames.specs.Groups.{groups_from, has_group, numbers_from}
 use Rattle.gd_points.specs.declared.table.Row.{Row}
-use Rattle.gd_zone.proofs.Numbers.{values-by-number}
-use Rattle.gd_quat.specs.Formulas.{Ends}
-use Rattle.std.specs.Prelude.{pos}
-
--- one number more
-numbers-next : (n first : ℕ) → numbers_from first (suc n) ≡ numbers_from first n ++ (first + n) ∷ []
-numbers-next zero first =
-    let same : first ≡ first + 0 = omega arith in
-    ap (λ k. k ∷ []) same
-numbers-next (suc n) first =
-    let same : suc first + n ≡ first + suc n = omega arith in
-    ap (λ ks. first ∷ ks) (numbers-next n (suc first) ∙ ap (λ k. numbers_from (suc first) n ++ k ∷ []) same)
-
--- the numbers that pass, one number on
-pub groups-next : (p : ℕ → Bool) (first g : ℕ) → first ≤ g
-    → filter p (numbers_from first (g + 1 - first)) ≡ filter p (numbers_from first (g - first)) ++ cond (p g) (g ∷ []) []
-groups-next p first g h =
-    let more : g + 1 - first ≡ suc (g - first) = omega (arith, h) in
-    let last : first + (g - first) ≡ g = omega (arith, h) in
-    ap (λ n. filter p (numbers_from first n)) more
-    ∙ ap (filter p) (numbers-next (g - first) first)
-    ∙ ap (λ k. filter p (numbers_from first (g - first) ++ k ∷ [])) last
-    ∙ filter-append p (numbers_from first (g - first)) (g ∷ [])
 
 -- a list of lists, one step on
 pub listed-next : {X A : Type 0} (f : X → List A) (xs : List X) (i : ℕ) (d : X) → i < length xs
@@ -51,20 +24,36 @@ none-listed list (Some x) is = absurd (none-some x (sym is))
 pub with-none : {A : Type 0} (xs ys : List A) → ys ≡ [] → xs ≡ xs ++ ys
 with-none xs ys none = sym (ap (λ zs. xs ++ zs) none ∙ append-nil xs)
 
--- ---- a feature has a group where some number of a point is of both
-some-passes : (p : Row → Bool) (rows : List Row) → not (nat_eq (length (filter p rows)) 0) ≡ list_any p rows
-some-passes p [] = refl
-some-passes p (row ∷ rows) = elim (cases_Bool (p row)) [
-  | inl passes ↦ rw passes (ap not (eqb-suc-zero (length (filter p rows))))
-  | inr fails ↦ rw fails (some-passes p rows)
-]
+-- ---- from group to group
+-- numbers that fail are passed over
+past : (p : ℕ → Bool) (n a m : ℕ) → ((k : ℕ) → a ≤ k → k < a + n → p k ≡ false) → filter p (numbers_from a (n + m)) ≡ filter p (numbers_from (a + n) m)
+past p zero a m fails =
+    let none : 0 + m ≡ m = omega arith in
+    let same : a ≡ a + 0 = omega arith in
+    ap (λ k. filter p (numbers_from a k)) none ∙ ap (λ k. filter p (numbers_from k m)) same
+past p (suc n) a m fails =
+    let more : suc n + m ≡ suc (n + m) = omega arith in
+    let next : suc a + n ≡ a + suc n = omega arith in
+    ap (λ k. filter p (numbers_from a k)) more
+    ∙ rw (fails a (omega arith) (omega arith)) (past p n (suc a) m (λ k above below. fails k (omega arith) (omega arith)) ∙ ap (λ k. filter p (numbers_from k m)) next)
 
-abbrev nowhere : Row → Ends
-nowhere row = record { lo = pos 0; hi = pos 0 }
+pub no-groups : (rows : List Row) (feature from : ℕ) → from ≤ 1000 → ((k : ℕ) → from ≤ k → has_group rows feature k ≡ false) → groups_from from rows feature ≡ []
+unfolding groups_from
+no-groups rows feature from few none =
+    let all : 1000 - from ≡ (1000 - from) + 0 = omega arith in
+    ap (λ k. filter (has_group rows feature) (numbers_from from k)) all ∙ past (has_group rows feature) (1000 - from) from 0 (λ k above below. none k above)
 
-as-many : (p : Row → Bool) (rows : List Row) → length (numbers_where p rows) ≡ length (filter p rows)
-as-many p rows = sym (length-map (numbers_where p rows) _) ∙ ap length (values-by-number nowhere p rows) ∙ length-map (filter p rows) nowhere
+one-step : (p : ℕ → Bool) (g n : ℕ) → p g ≡ true → filter p (numbers_from g (suc n)) ≡ g ∷ filter p (numbers_from (g + 1) n)
+one-step p g n is = let next : suc g ≡ g + 1 = omega arith in rw is (ap (λ k. g ∷ filter p (numbers_from k n)) next)
 
-pub has-numbers : (rows : List Row) (feature group : ℕ) → not (nat_eq (length (numbers_where (is_of_group feature group) rows)) 0) ≡ has_group rows feature group
-has-numbers rows feature group =
-    ap (λ n. not (nat_eq n 0)) (as-many (is_of_group feature group) rows) ∙ some-passes (is_of feature group) rows
+pub one-group : (rows : List Row) (feature from group : ℕ) → group ≤ 999 → from ≤ group → has_group rows feature group ≡ true
+    → ((k : ℕ) → from ≤ k → k < group → has_group rows feature k ≡ false) → groups_from from rows feature ≡ group ∷ groups_from (group + 1) rows feature
+unfolding groups_from
+one-group rows feature from group small above is least =
+    let p = has_group rows feature in
+    let all : 1000 - from ≡ (group - from) + suc (1000 - (group + 1)) = omega (arith, small, above) in
+    let at : from + (group - from) ≡ group = omega (arith, above) in
+    ap (λ k. filter p (numbers_from from k)) all
+    ∙ past p (group - from) from (suc (1000 - (group + 1))) (λ k up down. least k up (omega (arith, above)))
+    ∙ ap (λ k. filter p (numbers_from k (suc (1000 - (group + 1))))) at
+    ∙ one-step p group (1000 - (group + 1)) is
