@@ -9,7 +9,6 @@ use Rattle.gd_dir.specs.declared.shape.FormShape.{FormShape}
 use Rattle.gd_dir.specs.declared.shape.FormShape.TheVariants.{Flat, Line, Circle, Cylinder}
 use Rattle.gd_flat.specs.FlatTests.{evidence_of, greatest, least, place_of, point_at}
 use Rattle.gd_int.specs.Roots.{cmp_root_of}
-use Rattle.gd_points.specs.Index.{is_of, is_of_group, numbers_where}
 use Rattle.gd_points.specs.declared.table.Row.{Row}
 use Rattle.gd_quat.specs.Formulas.{Ends, VectorEnds, difference, multiple, narrowed, product}
 use Rattle.gd_vec.specs.declared.vector.V3.{V3}
@@ -80,11 +79,7 @@ abbrev pub far_ends : FormShape → DirBox → V3 → List Row → List ℕ → 
 far_ends shape b a rows judged = map ceil_root (upper_ends shape b a rows judged)
 
 -- ---- the points that are judged: places in a table, from 0. Evidence names points by their numbers, from 1
--- those of a feature, and of its group where one is stated
-abbrev pub numbers_of : ℕ → Option ℕ → List Row → List ℕ
-numbers_of feature None rows = numbers_where (is_of feature) rows
-numbers_of feature (Some group) rows = numbers_where (is_of_group feature group) rows
-
+-- this is the number of one of them
 abbrev pub is_judged : List ℕ → ℕ → Bool
 is_judged judged number = nat_le 1 number && list_any (λ (n : ℕ). nat_eq n (number - 1)) judged
 

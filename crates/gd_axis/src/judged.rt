@@ -2,11 +2,12 @@
 ghost use Rattle.std.specs.Prelude.{◌≡◌, ◌<◌, ◌≤◌, ◌^◌, ◌-◌, get_or, length, nat_eq, true, false, IfSome, None, []};
 ghost use Rattle.std.specs.List.{All, list_any};
 ghost use Rattle.std.specs.List.Sorted.{IsNonDecreasingBy};
-ghost use Rattle.gd_axis.specs.AxisTests.{is_judged, numbers_of};
+ghost use Rattle.gd_axis.specs.AxisTests.{is_judged};
 ghost use Rattle.gd_flat.specs.FlatTests.{point_at};
+ghost use Rattle.gd_flat.specs.Judged.{numbers_of};
 ghost use Rattle.gd_vec.specs.Vector.{IsWithin};
 
-use gd_flat::{Points, place_at};
+use crate::points::{Points, place_at};
 use gd_points::PointIndex;
 use gd_vec::V3;
 

@@ -10,6 +10,7 @@ mod judged;
 mod laws;
 mod line;
 mod places;
+mod points;
 mod ring;
 mod task;
 #[cfg(test)]

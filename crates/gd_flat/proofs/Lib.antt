@@ -1,3 +1,4 @@
+pub mod Among
 pub mod Blocks
 pub mod Decisions
 mod KnownValues

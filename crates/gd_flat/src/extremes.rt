@@ -3,9 +3,10 @@ ghost use Rattle.std.specs.Prelude.{◌≡◌, ◌<◌, ◌≤◌, ◌≤ℤ◌,
 ghost use Rattle.std.specs.List.{All};
 ghost use Rattle.std.specs.Ordering.{int_eq};
 ghost use Rattle.gd_flat.specs.FlatTests.{greatest, highs, least, lows, place_of};
+ghost use Rattle.gd_flat.specs.PointRows.{rows_in};
 
 use crate::face::{Face, Span, span_at};
-use crate::points::block_end;
+use crate::points::{block_end, count_of};
 
 // A value of some points, in units and 2^-30, and a place, from 0, before which no point has it.
 #[derive(Clone, Copy)]
@@ -27,11 +28,11 @@ pub struct Extremes {
 fn ends_to(face: &Face<'_>, before: Span, from: usize, to: usize) -> Span
     requires from { 0 < from }
     requires order { from ≤ to }
-    requires to { to ≤ length face.now.points.table.now.rows }
-    requires lo { before.lo ≡ greatest (take from (lows face.now.directions face.now.points.table.now.rows)) }
-    requires hi { before.hi ≡ least (take from (highs face.now.directions face.now.points.table.now.rows)) }
-    ensures lo { result.lo ≡ greatest (take to (lows face.now.directions face.now.points.table.now.rows)) }
-    ensures hi { result.hi ≡ least (take to (highs face.now.directions face.now.points.table.now.rows)) }
+    requires to { to ≤ length (rows_in face.now.points) }
+    requires lo { before.lo ≡ greatest (take from (lows face.now.directions (rows_in face.now.points))) }
+    requires hi { before.hi ≡ least (take from (highs face.now.directions (rows_in face.now.points))) }
+    ensures lo { result.lo ≡ greatest (take to (lows face.now.directions (rows_in face.now.points))) }
+    ensures hi { result.hi ≡ least (take to (highs face.now.directions (rows_in face.now.points))) }
     ensures lo_more { before.lo ≤ℤ result.lo }
     ensures hi_less { result.hi ≤ℤ before.hi }
 {
@@ -74,16 +75,16 @@ fn lesser(best: Extreme, value: i64, from: usize) -> Extreme
 
 // The extremes of the points along the directions of a box, and the blocks that have them first.
 pub fn extremes_along(face: &Face<'_>) -> Extremes
-    ensures greatest_lo { result.farthest.value ≡ greatest (lows face.now.directions face.now.points.table.now.rows) }
+    ensures greatest_lo { result.farthest.value ≡ greatest (lows face.now.directions (rows_in face.now.points)) }
     ensures farthest { All (λ value. int_eq result.farthest.value value ≡ false)
-        (take result.farthest.from (lows face.now.directions face.now.points.table.now.rows)) }
-    ensures least_hi { result.nearest.value ≡ least (highs face.now.directions face.now.points.table.now.rows) }
+        (take result.farthest.from (lows face.now.directions (rows_in face.now.points))) }
+    ensures least_hi { result.nearest.value ≡ least (highs face.now.directions (rows_in face.now.points)) }
     ensures nearest { All (λ value. int_eq result.nearest.value value ≡ false)
-        (take result.nearest.from (highs face.now.directions face.now.points.table.now.rows)) }
-    ensures lo_place { result.farthest.from ≤ length face.now.points.table.now.rows }
-    ensures hi_place { result.nearest.from ≤ length face.now.points.table.now.rows }
+        (take result.nearest.from (highs face.now.directions (rows_in face.now.points))) }
+    ensures lo_place { result.farthest.from ≤ length (rows_in face.now.points) }
+    ensures hi_place { result.nearest.from ≤ length (rows_in face.now.points) }
 {
-    let count = face.points.table.len();
+    let count = count_of(&face.points);
     let here = Extreme { value: 0, from: 0 };
     let mut farthest = here;
     let mut nearest = here;
@@ -104,13 +105,13 @@ pub fn extremes_along(face: &Face<'_>) -> Extremes
 
 // The first point that has this least value, where no point before has it.
 pub fn first_low(face: &Face<'_>, far: Extreme) -> usize
-    requires before { All (λ value. int_eq far.value value ≡ false) (take far.from (lows face.now.directions face.now.points.table.now.rows)) }
+    requires before { All (λ value. int_eq far.value value ≡ false) (take far.from (lows face.now.directions (rows_in face.now.points))) }
     requires size { unsigned_abs far.value ≤ 3 * 2 ^ 54 }
-    requires from { far.from ≤ length face.now.points.table.now.rows }
-    ensures place { result ≡ place_of far.value (lows face.now.directions face.now.points.table.now.rows) }
-    ensures inside { result ≤ length face.now.points.table.now.rows }
+    requires from { far.from ≤ length (rows_in face.now.points) }
+    ensures place { result ≡ place_of far.value (lows face.now.directions (rows_in face.now.points)) }
+    ensures inside { result ≤ length (rows_in face.now.points) }
 {
-    let count = face.points.table.len();
+    let count = count_of(&face.points);
     for at in far.from..count {
         if span_at(face, at).lo == far.value {
             return at;
@@ -121,13 +122,13 @@ pub fn first_low(face: &Face<'_>, far: Extreme) -> usize
 
 // The first point that has this greatest value, where no point before has it.
 pub fn first_high(face: &Face<'_>, near: Extreme) -> usize
-    requires before { All (λ value. int_eq near.value value ≡ false) (take near.from (highs face.now.directions face.now.points.table.now.rows)) }
+    requires before { All (λ value. int_eq near.value value ≡ false) (take near.from (highs face.now.directions (rows_in face.now.points))) }
     requires size { unsigned_abs near.value ≤ 3 * 2 ^ 54 }
-    requires from { near.from ≤ length face.now.points.table.now.rows }
-    ensures place { result ≡ place_of near.value (highs face.now.directions face.now.points.table.now.rows) }
-    ensures inside { result ≤ length face.now.points.table.now.rows }
+    requires from { near.from ≤ length (rows_in face.now.points) }
+    ensures place { result ≡ place_of near.value (highs face.now.directions (rows_in face.now.points)) }
+    ensures inside { result ≤ length (rows_in face.now.points) }
 {
-    let count = face.points.table.len();
+    let count = count_of(&face.points);
     for at in near.from..count {
         if span_at(face, at).hi == near.value {
             return at;

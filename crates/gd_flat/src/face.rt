@@ -5,6 +5,7 @@ ghost use Rattle.gd_base.specs.Limits.{COORDINATE, TOLERANCE};
 ghost use Rattle.gd_dir.specs.Boxes.{IsBox};
 ghost use Rattle.gd_dir.specs.Directions.{first_other, second_other};
 ghost use Rattle.gd_flat.specs.FlatTests.{highs, lows, scale_hi, scale_lo};
+ghost use Rattle.gd_flat.specs.PointRows.{rows_in};
 ghost use Rattle.gd_flat.specs.Leading.{IsAxis, LeadsByOne, coordinates};
 
 use crate::points::Points;
@@ -43,9 +44,9 @@ pub struct Face<'a> {
     second: Axis<'a>,
     ghost is_box: { IsBox directions },
     ghost leads: { LeadsByOne directions },
-    ghost lead_is: { lead.values.now ≡ coordinates directions.lead points.table.now.rows },
-    ghost first_is: { IsAxis (first_other directions.lead) directions points.table.now.rows first.along.values.now first.lo first.hi },
-    ghost second_is: { IsAxis (second_other directions.lead) directions points.table.now.rows second.along.values.now second.lo second.hi },
+    ghost lead_is: { lead.values.now ≡ coordinates directions.lead (rows_in points) },
+    ghost first_is: { IsAxis (first_other directions.lead) directions (rows_in points) first.along.values.now first.lo first.hi },
+    ghost second_is: { IsAxis (second_other directions.lead) directions (rows_in points) second.along.values.now second.lo second.hi },
 }
 
 // The least and the greatest of some values, in units and 2^-30.
@@ -91,13 +92,13 @@ fn face_with<'a>(
 ) -> Face<'a>
     requires is_box { IsBox directions.now }
     requires leads { LeadsByOne directions.now }
-    requires lead { lead.values.now ≡ coordinates directions.now.lead points.now.table.now.rows }
-    requires first { IsAxis (first_other directions.now.lead) directions.now points.now.table.now.rows
+    requires lead { lead.values.now ≡ coordinates directions.now.lead (rows_in points.now) }
+    requires first { IsAxis (first_other directions.now.lead) directions.now (rows_in points.now)
         first.along.values.now first.lo first.hi }
-    requires second { IsAxis (second_other directions.now.lead) directions.now points.now.table.now.rows
+    requires second { IsAxis (second_other directions.now.lead) directions.now (rows_in points.now)
         second.along.values.now second.lo second.hi }
     ensures directions { result.directions ≡ directions.now }
-    ensures rows { result.points.table.now.rows ≡ points.now.table.now.rows }
+    ensures rows { rows_in result.points ≡ rows_in points.now }
 {
     Face {
         directions: *directions,
@@ -113,7 +114,7 @@ pub fn face_of<'a>(directions: &DirBox, points: &Points<'a>) -> Face<'a>
     requires is_box { IsBox directions.now }
     requires leads { LeadsByOne directions.now }
     ensures directions { result.directions ≡ directions.now }
-    ensures rows { result.points.table.now.rows ≡ points.now.table.now.rows }
+    ensures rows { rows_in result.points ≡ rows_in points.now }
 {
     let x = coordinates_of(points.columns.x);
     let y = coordinates_of(points.columns.y);
@@ -188,9 +189,9 @@ fn greatest_product(axis: &Axis<'_>, by: i32) -> i64
 // The least and the greatest value of the point at a place, taken from the first point.
 #[inline(always)]
 pub fn span_at(face: &Face<'_>, at: usize) -> Span
-    requires { at < length face.now.points.table.now.rows }
-    ensures lo { result.lo ≡ get_or (lows face.now.directions face.now.points.table.now.rows) at (pos 0) }
-    ensures hi { result.hi ≡ get_or (highs face.now.directions face.now.points.table.now.rows) at (pos 0) }
+    requires { at < length (rows_in face.now.points) }
+    ensures lo { result.lo ≡ get_or (lows face.now.directions (rows_in face.now.points)) at (pos 0) }
+    ensures hi { result.hi ≡ get_or (highs face.now.directions (rows_in face.now.points)) at (pos 0) }
 {
     let lead = times(ONE, apart(&face.lead, at));
     let first = apart(&face.first.along, at);

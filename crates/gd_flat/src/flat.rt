@@ -6,13 +6,14 @@ ghost use Rattle.gd_base.specs.Limits.{TOLERANCE};
 ghost use Rattle.gd_dir.specs.Boxes.{IsBox};
 ghost use Rattle.gd_flat.specs.FlatTests.{evidence_of, first_evidence, highs, is_point, is_refuted, lows};
 ghost use Rattle.gd_flat.specs.FlatTests.{most_norm2, parts, place_of, square_hi};
+ghost use Rattle.gd_flat.specs.PointRows.{rows_in};
 ghost use Rattle.gd_flat.specs.Leading.{LeadsByOne};
 ghost use Rattle.gd_int.specs.Roots.{cmp_root_of};
 ghost use Rattle.gd_vec.specs.Vector.{IsWithin};
 
 use crate::extremes::{Extremes, extremes_along, first_high, first_low};
 use crate::face::{Face, face_of, span_at};
-use crate::points::Points;
+use crate::points::{Points, count_of};
 use gd_cells::Evidence;
 use gd_dir::DirBox;
 use gd_int::cmp_root;
@@ -71,7 +72,7 @@ pub fn first_evidence_in(b: &DirBox, points: &Points<'_>, tolerance: u32) -> Opt
     requires directions { IsBox b.now }
     requires leads { LeadsByOne b.now }
     requires tolerance { tolerance ≤ TOLERANCE }
-    ensures { result ≡ first_evidence points.now.table.now.rows tolerance b.now }
+    ensures { result ≡ first_evidence (rows_in points.now) tolerance b.now }
 {
     let face = face_of(b, points);
     let extremes = extremes_along(&face);
@@ -90,14 +91,14 @@ pub fn first_evidence_in(b: &DirBox, points: &Points<'_>, tolerance: u32) -> Opt
 // The evidence of the first points that have these extremes.
 fn evidence_at(face: &Face<'_>, extremes: Extremes) -> Evidence
     requires farthest { All (λ value. int_eq extremes.farthest.value value ≡ false)
-        (take extremes.farthest.from (lows face.now.directions face.now.points.table.now.rows)) }
+        (take extremes.farthest.from (lows face.now.directions (rows_in face.now.points))) }
     requires nearest { All (λ value. int_eq extremes.nearest.value value ≡ false)
-        (take extremes.nearest.from (highs face.now.directions face.now.points.table.now.rows)) }
-    requires lo_place { extremes.farthest.from ≤ length face.now.points.table.now.rows }
-    requires hi_place { extremes.nearest.from ≤ length face.now.points.table.now.rows }
+        (take extremes.nearest.from (highs face.now.directions (rows_in face.now.points))) }
+    requires lo_place { extremes.farthest.from ≤ length (rows_in face.now.points) }
+    requires hi_place { extremes.nearest.from ≤ length (rows_in face.now.points) }
     ensures { result ≡ evidence_of
-        (place_of extremes.farthest.value (lows face.now.directions face.now.points.table.now.rows))
-        (place_of extremes.nearest.value (highs face.now.directions face.now.points.table.now.rows)) }
+        (place_of extremes.farthest.value (lows face.now.directions (rows_in face.now.points)))
+        (place_of extremes.nearest.value (highs face.now.directions (rows_in face.now.points))) }
 {
     let far = first_low(face, extremes.farthest);
     let near = first_high(face, extremes.nearest);
@@ -111,9 +112,9 @@ fn evidence_at(face: &Face<'_>, extremes: Extremes) -> Evidence
 // Whether this is the number of a point, from 1.
 #[inline]
 fn names_a_point(number: u32, points: &Points<'_>) -> bool
-    ensures { result ≡ is_point points.now.table.now.rows number }
+    ensures { result ≡ is_point (rows_in points.now) number }
 {
-    1 <= number && number as usize <= points.table.len()
+    1 <= number && number as usize <= count_of(points)
 }
 
 // Whether the points at two places, from 0, part a box.
@@ -121,9 +122,9 @@ fn places_part(b: &DirBox, points: &Points<'_>, tolerance: u32, far: usize, near
     requires directions { IsBox b.now }
     requires leads { LeadsByOne b.now }
     requires tolerance { tolerance ≤ TOLERANCE }
-    requires far { far < length points.now.table.now.rows }
-    requires near { near < length points.now.table.now.rows }
-    ensures { result ≡ parts points.now.table.now.rows tolerance b.now far near }
+    requires far { far < length (rows_in points.now) }
+    requires near { near < length (rows_in points.now) }
+    ensures { result ≡ parts (rows_in points.now) tolerance b.now far near }
 {
     let face = face_of(b, points);
     are_parted(
@@ -139,7 +140,7 @@ pub fn is_refuted_at(b: &DirBox, points: &Points<'_>, tolerance: u32, evidence: 
     requires directions { IsBox b.now }
     requires leads { LeadsByOne b.now }
     requires tolerance { tolerance ≤ TOLERANCE }
-    ensures { result ≡ is_refuted points.now.table.now.rows tolerance b.now evidence.now }
+    ensures { result ≡ is_refuted (rows_in points.now) tolerance b.now evidence.now }
 {
     evidence.condition == FLATNESS
         && names_a_point(evidence.a, points)

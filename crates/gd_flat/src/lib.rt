@@ -3,11 +3,13 @@
 
 mod extremes;
 mod face;
+mod feature;
 mod flat;
 mod points;
 mod products;
 mod spread;
 mod task;
 
-pub use points::{Place, Points, place_at};
+pub use feature::{FeatureTask, feature_task};
+pub use points::Points;
 pub use task::{FlatTask, flat_task};

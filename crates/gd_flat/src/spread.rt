@@ -3,11 +3,12 @@ ghost use Rattle.std.specs.Prelude.{◌≡◌, ◌<◌, ◌≤◌, ◌^◌, ◌*
 ghost use Rattle.std.specs.Ordering.{is_le};
 ghost use Rattle.gd_base.specs.Limits.{TOLERANCE};
 ghost use Rattle.gd_flat.specs.FlatTests.{along, greatest, is_within, least};
+ghost use Rattle.gd_flat.specs.PointRows.{rows_in};
 ghost use Rattle.gd_int.specs.Roots.{cmp_root_of};
 ghost use Rattle.gd_vec.specs.Vector.{IsWithin, norm2_of};
 
 use crate::face::Span;
-use crate::points::{Points, block_end, place_at};
+use crate::points::{Points, block_end, count_of, place_at};
 use crate::products::{short, sum, times};
 use gd_int::cmp_root;
 use gd_vec::{V3, norm2};
@@ -16,8 +17,8 @@ use gd_vec::{V3, norm2};
 #[inline(always)]
 fn value_at(n: &V3, points: &Points<'_>, at: usize) -> i64
     requires direction { IsWithin (2 ^ 30) n.now }
-    requires at { at < length points.now.table.now.rows }
-    ensures value { result ≡ get_or (along n.now points.now.table.now.rows) at (pos 0) }
+    requires at { at < length (rows_in points.now) }
+    ensures value { result ≡ get_or (along n.now (rows_in points.now)) at (pos 0) }
     ensures size { unsigned_abs result ≤ 3 * 2 ^ 54 }
 {
     let point = place_at(points, at);
@@ -33,11 +34,11 @@ fn span_to(n: &V3, points: &Points<'_>, before: Span, from: usize, to: usize) ->
     requires direction { IsWithin (2 ^ 30) n.now }
     requires from { 0 < from }
     requires order { from ≤ to }
-    requires to { to ≤ length points.now.table.now.rows }
-    requires lo { before.lo ≡ least (take from (along n.now points.now.table.now.rows)) }
-    requires hi { before.hi ≡ greatest (take from (along n.now points.now.table.now.rows)) }
-    ensures lo { result.lo ≡ least (take to (along n.now points.now.table.now.rows)) }
-    ensures hi { result.hi ≡ greatest (take to (along n.now points.now.table.now.rows)) }
+    requires to { to ≤ length (rows_in points.now) }
+    requires lo { before.lo ≡ least (take from (along n.now (rows_in points.now))) }
+    requires hi { before.hi ≡ greatest (take from (along n.now (rows_in points.now))) }
+    ensures lo { result.lo ≡ least (take to (along n.now (rows_in points.now))) }
+    ensures hi { result.hi ≡ greatest (take to (along n.now (rows_in points.now))) }
 {
     let mut least = before.lo;
     let mut most = before.hi;
@@ -67,9 +68,9 @@ fn is_narrow(n: &V3, span: Span, tolerance: u32) -> bool
 pub fn lies_within(n: &V3, points: &Points<'_>, tolerance: u32) -> bool
     requires direction { IsWithin (2 ^ 30) n.now }
     requires tolerance { tolerance ≤ TOLERANCE }
-    ensures { result ≡ is_within points.now.table.now.rows tolerance n.now }
+    ensures { result ≡ is_within (rows_in points.now) tolerance n.now }
 {
-    let count = points.table.len();
+    let count = count_of(points);
     let first = value_at(n, points, 0);
     let mut span = Span {
         lo: first,

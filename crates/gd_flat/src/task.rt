@@ -1,11 +1,13 @@
 // Flatness as a task over the cells of three faces.
-ghost use Rattle.std.specs.Prelude.{◌≡◌, ◌<◌, ◌≤◌, ◌^◌, length, nat_le, unsigned_abs};
-ghost use Rattle.gd_base.specs.Limits.{TOLERANCE};
+ghost use Rattle.std.specs.Prelude.{◌≡◌, ◌<◌, ◌≤◌, ◌^◌, None, length, nat_le, option_map, true, unsigned_abs};
+ghost use Rattle.gd_base.specs.Limits.{POINTS, TOLERANCE};
 ghost use Rattle.gd_flat.specs.Laws.Task.{flat_laws};
-ghost use Rattle.gd_flat.specs.FlatTask.{IsFeasible, IsInside, assignment_of, direction_at, questions_of};
+ghost use Rattle.gd_flat.specs.FlatTask.{IsFeasible, IsInside, assignment_of, direction_at, is_in_range, questions_of};
+ghost use Rattle.gd_flat.specs.FlatTests.{is_within};
+ghost use Rattle.gd_flat.specs.PointRows.{rows_in};
 
 use crate::flat::{first_evidence_in, is_refuted_at};
-use crate::points::Points;
+use crate::points::{Points, count_of};
 use crate::spread::lies_within;
 use gd_cells::{Cell, Evidence, Task, Witness, split_cell, witness_of, zeros_behind};
 use gd_dir::{centre_of, direction, face_box};
@@ -21,6 +23,9 @@ pub struct FlatTask<'a> {
     pub points: Points<'a>,
     pub tolerance: u32,
     ghost tolerable: { tolerance ≤ TOLERANCE },
+    ghost all: { option_map (λ n. n.now) points.numbers ≡ None },
+    ghost some: { 0 < length points.table.now.rows },
+    ghost few: { length points.table.now.rows ≤ POINTS },
 }
 
 /// The flatness of all points of a table, taken as one feature, to a tolerance in units of 0.1 micrometre.
@@ -33,6 +38,7 @@ pub fn flat_task(table: &PointTable, tolerance: u32) -> FlatTask<'_>
     FlatTask {
         points: Points {
             table,
+            numbers: None,
             columns: table.columns(),
         },
         tolerance,
@@ -65,7 +71,7 @@ impl<'a> Task for FlatTask<'a> {
     }
 
     fn points(&self) -> usize {
-        self.points.table.len()
+        count_of(&self.points)
     }
 
     fn split(&self, cell: &Cell) -> (Cell, Cell) {
@@ -86,19 +92,35 @@ impl<'a> Task for FlatTask<'a> {
     }
 
     fn in_range(&self, witness: &Witness) -> bool {
-        1 <= witness.root
-            && witness.root <= 3
-            && is_ratio(witness.at[0])
-            && is_ratio(witness.at[1])
-            && zeros_behind(witness, 2)
+        is_in_range(witness)
     }
 
     fn holds(&self, witness: &Witness) -> bool {
-        let n = direction(witness.root, witness.at[0], witness.at[1]);
-        lies_within(&n, &self.points, self.tolerance)
+        holds_at(&self.points, self.tolerance, witness)
     }
 
-    ghost laws = { λ t. flat_laws t.points.table.now.rows t.tolerance t.points.some t.points.few };
+    ghost laws = { λ t. flat_laws t.points.table.now.rows t.tolerance t.some t.few };
+}
+
+// Whether a witness names a face and two ratios.
+pub fn is_in_range(witness: &Witness) -> bool
+    ensures { result ≡ is_in_range witness.now }
+{
+    1 <= witness.root
+        && witness.root <= 3
+        && is_ratio(witness.at[0])
+        && is_ratio(witness.at[1])
+        && zeros_behind(witness, 2)
+}
+
+// Whether the points lie within the tolerance, in units, along the direction of a witness in range.
+pub fn holds_at(points: &Points<'_>, tolerance: u32, witness: &Witness) -> bool
+    requires tolerance { tolerance ≤ TOLERANCE }
+    requires ranges { is_in_range witness.now ≡ true }
+    ensures { result ≡ is_within (rows_in points.now) tolerance (direction_at witness.now) }
+{
+    let n = direction(witness.root, witness.at[0], witness.at[1]);
+    lies_within(&n, points, tolerance)
 }
 
 // Whether a ratio in 2^-30 lies between -1 and 1.

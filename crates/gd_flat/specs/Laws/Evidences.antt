@@ -102,7 +102,7 @@ refutation rows tolerance b e h =
     record { far = point_inside rows e.a f.0; near = point_inside rows e.b f.1; parted = f.2 }
 
 -- ---- the laws of the first evidence
-first_some : (rows : List Row) (tolerance : ℕ) (b : DirBox) (t : Bool) (e : Evidence) → cond t (Some (evidence_of (farthest b rows) (nearest b rows))) None ≡ Some e → (t ≡ true) × (evidence_of (farthest b rows) (nearest b rows) ≡ e)
+pub first_some : (rows : List Row) (tolerance : ℕ) (b : DirBox) (t : Bool) (e : Evidence) → cond t (Some (evidence_of (farthest b rows) (nearest b rows))) None ≡ Some e → (t ≡ true) × (evidence_of (farthest b rows) (nearest b rows) ≡ e)
 first_some rows tolerance b true e h = (refl, cc)
 first_some rows tolerance b false e h = absurd (cc)
 
@@ -112,7 +112,7 @@ point_named rows i h =
     let b : nat_le (i + 1) (length rows) ≡ true = grind (arith, nat_tests) in
     rw (a, b) refl
 
-refutes_with : (rows : List Row) (tolerance : ℕ) (b : DirBox) (i j : ℕ) → i < length rows → j < length rows → parts rows tolerance b i j ≡ true → is_refuted rows tolerance b (evidence_of i j) ≡ true
+pub refutes_with : (rows : List Row) (tolerance : ℕ) (b : DirBox) (i j : ℕ) → i < length rows → j < length rows → parts rows tolerance b i j ≡ true → is_refuted rows tolerance b (evidence_of i j) ≡ true
 refutes_with rows tolerance b i j h k p =
     let ei : i + 1 - 1 ≡ i = omega arith in
     let ej : j + 1 - 1 ≡ j = omega arith in

@@ -1,6 +1,6 @@
 use Rattle.std.proofs.Common.{◌≡◌, ℕ, length, slice_get, subst, sym}
 use Rattle.std.specs.List.Sorted.{IsNonDecreasingBy}
-use Rattle.gd_axis.proofs.Among.{ascending}
+use Rattle.gd_flat.proofs.Among.{ascending}
 use Rattle.gd_points.specs.Index.{is_of, is_of_group, passes}
 use Rattle.gd_axis.proofs.judged.numbers_of.Goals as goal
 

@@ -4,12 +4,13 @@ use Rattle.std.specs.Int.{int_max, int_min}
 use Rattle.gd_flat.proofs.Blocks.{greatest_next, highs_length, least_next, lows_length}
 use Rattle.gd_flat.proofs.Sizes.{abs_max, abs_min, kept, kept-is}
 use Rattle.gd_flat.specs.FlatTests.{greatest, highs, least, lows}
+use Rattle.gd_flat.specs.PointRows.{rows_in}
 use Rattle.gd_flat.proofs.extremes.ends_to.Goals as goal
 
 pub loop-at-preserved : goal.loop-at-preserved
 loop-at-preserved c =
     let b = c.args.face.now.directions in
-    let rows = c.args.face.now.points.table.now.rows in
+    let rows = rows_in c.args.face.now.points in
     let i : ℕ = c.loop-at.at in
     let so = c.loop-at.invariant in
     let most : ℤ = to_z w64 c.loop-at.most-bits in

@@ -1,16 +1,17 @@
 use Rattle.std.proofs.Common.{rules, arith, ◌≡◌, ◌∙◌}
 use Rattle.gd_flat.proofs.Leading.{column_within}
 use Rattle.gd_points.specs.declared.table.Row.{Row}
+use Rattle.gd_flat.specs.PointRows.{rows_in}
 use Rattle.gd_flat.proofs.face.face_of.Goals as goal
 
 pub coordinates_of-x-requires : goal.coordinates_of-x-requires
-coordinates_of-x-requires c = column_within (λ (row : Row). row.at.x) c.args.points.now.columns.x.now c.args.points.now.table.now.rows c.args.points.now.same.x (λ row within. within.x) c.args.points.now.within
+coordinates_of-x-requires c = column_within (λ (row : Row). row.at.x) c.args.points.now.columns.x.now (rows_in c.args.points.now) c.args.points.now.same.x (λ row within. within.x) c.args.points.now.within
 
 pub coordinates_of-y-requires : goal.coordinates_of-y-requires
-coordinates_of-y-requires c = column_within (λ (row : Row). row.at.y) c.args.points.now.columns.y.now c.args.points.now.table.now.rows c.args.points.now.same.y (λ row within. within.y) c.args.points.now.within
+coordinates_of-y-requires c = column_within (λ (row : Row). row.at.y) c.args.points.now.columns.y.now (rows_in c.args.points.now) c.args.points.now.same.y (λ row within. within.y) c.args.points.now.within
 
 pub coordinates_of-z-requires : goal.coordinates_of-z-requires
-coordinates_of-z-requires c = column_within (λ (row : Row). row.at.z) c.args.points.now.columns.z.now c.args.points.now.table.now.rows c.args.points.now.same.z (λ row within. within.z) c.args.points.now.within
+coordinates_of-z-requires c = column_within (λ (row : Row). row.at.z) c.args.points.now.columns.z.now (rows_in c.args.points.now) c.args.points.now.same.z (λ row within. within.z) c.args.points.now.within
 
 pub face_with-requires-in_default-clause-first : goal.face_with-requires-in_default-clause-first
 face_with-requires-in_default-clause-first c =

@@ -4,13 +4,14 @@ use Rattle.gd_flat.proofs.Leading.{apart_at, highs_at, lows_at}
 use Rattle.gd_flat.proofs.Sizes.{kept-is, kept_short-is}
 use Rattle.gd_flat.specs.FlatTests.{point_at, scale_hi, scale_lo}
 use Rattle.gd_vec.specs.Vector.{difference}
+use Rattle.gd_flat.specs.PointRows.{rows_in}
 use Rattle.gd_flat.proofs.face.span_at.Goals as goal
 
 pub returns-clause-lo : goal.returns-clause-lo
 returns-clause-lo c =
     let f = c.args.face.now in
     let b = c.args.face.now.directions in
-    let rows = c.args.face.now.points.table.now.rows in
+    let rows = rows_in c.args.face.now.points in
     let apart = difference (point_at rows c.args.at) (point_at rows 0) in
     let lead : c.apart.result ≡ entry b.lead apart = c.apart.ensures.value ∙ apart_at b.lead rows f.lead.values.now c.args.at f.lead_is c.requires in
     let first : c.apart-first.result ≡ entry (first_other b.lead) apart = c.apart-first.ensures.value ∙ apart_at (first_other b.lead) rows f.first.along.values.now c.args.at f.first_is.along c.requires in
@@ -32,7 +33,7 @@ pub returns-clause-hi : goal.returns-clause-hi
 returns-clause-hi c =
     let f = c.args.face.now in
     let b = c.args.face.now.directions in
-    let rows = c.args.face.now.points.table.now.rows in
+    let rows = rows_in c.args.face.now.points in
     let apart = difference (point_at rows c.args.at) (point_at rows 0) in
     let lead : c.apart.result ≡ entry b.lead apart = c.apart.ensures.value ∙ apart_at b.lead rows f.lead.values.now c.args.at f.lead_is c.requires in
     let first : c.apart-first.result ≡ entry (first_other b.lead) apart = c.apart-first.ensures.value ∙ apart_at (first_other b.lead) rows f.first.along.values.now c.args.at f.first_is.along c.requires in

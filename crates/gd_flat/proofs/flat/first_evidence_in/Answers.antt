@@ -3,11 +3,12 @@ use Rattle.std.proofs.Common.{Some}
 use Rattle.gd_flat.proofs.Decisions.{decided}
 use Rattle.gd_flat.specs.FlatTests.{evidence_of, greatest, highs, least, lows, place_of}
 use Rattle.gd_flat.specs.Laws.Evidences.{evidence_else, evidence_then}
+use Rattle.gd_flat.specs.PointRows.{rows_in}
 use Rattle.gd_flat.proofs.flat.first_evidence_in.Goals as goal
 
 pub returns-then-are_parted : goal.returns-then-are_parted
 returns-then-are_parted c =
-    let rows = c.args.points.now.table.now.rows in
+    let rows = rows_in c.args.points.now in
     let b = c.args.b.now in
     let e = c.extremes_along-extremes in
     let far = e.result.farthest.value in
@@ -20,7 +21,7 @@ returns-then-are_parted c =
 
 pub returns-else-are_parted : goal.returns-else-are_parted
 returns-else-are_parted c =
-    let rows = c.args.points.now.table.now.rows in
+    let rows = rows_in c.args.points.now in
     let b = c.args.b.now in
     let e = c.extremes_along-extremes in
     let g : e.result.farthest.value ≡ greatest (lows b rows) = rw (c.face_of-face.ensures.directions, c.face_of-face.ensures.rows) at e.ensures.greatest_lo in

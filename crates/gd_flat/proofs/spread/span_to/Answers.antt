@@ -3,12 +3,13 @@ use Rattle.std.specs.Int.{int_max, int_min}
 use Rattle.gd_flat.proofs.Blocks.{along_length, greatest_next, least_next}
 use Rattle.gd_flat.proofs.Sizes.{abs_max, abs_min, kept, kept-is}
 use Rattle.gd_flat.specs.FlatTests.{along, greatest, least}
+use Rattle.gd_flat.specs.PointRows.{rows_in}
 use Rattle.gd_flat.proofs.spread.span_to.Goals as goal
 
 pub loop-at-preserved : goal.loop-at-preserved
 loop-at-preserved c =
     let n = c.args.n.now in
-    let rows = c.args.points.now.table.now.rows in
+    let rows = rows_in c.args.points.now in
     let i : ℕ = c.loop-at.at in
     let so = c.loop-at.invariant in
     let most : ℤ = to_z w64 c.loop-at.most-bits in

@@ -2,6 +2,7 @@ use Rattle.std.proofs.Common.{rules, arith, ◌≡◌, ◌∙◌, ◌*ℤ◌, ap
 use Rattle.gd_flat.proofs.Blocks.{along_there}
 use Rattle.gd_flat.proofs.Sizes.{kept-is}
 use Rattle.gd_vec.specs.Vector.{dot_of}
+use Rattle.gd_flat.specs.PointRows.{rows_in}
 use Rattle.gd_flat.proofs.spread.value_at.Goals as goal
 
 pub returns-clause-value : goal.returns-clause-value
@@ -14,4 +15,4 @@ returns-clause-value c =
     let ky = kept-is c.times-2.result (omega (arith, c.times-2.ensures.size)) in
     let kz = kept-is c.times-3.result (omega (arith, c.times-3.ensures.size)) in
     kept-is c.sum.result (omega (arith, c.sum.ensures.size)) ∙ c.sum.ensures.value ∙ rw (kx, ky, kz, x, y, z) refl
-    ∙ ap (dot_of n) c.place_at-point.ensures.value ∙ sym (along_there n c.args.points.now.table.now.rows c.args.at c.requires.at)
+    ∙ ap (dot_of n) c.place_at-point.ensures.value ∙ sym (along_there n (rows_in c.args.points.now) c.args.at c.requires.at)
