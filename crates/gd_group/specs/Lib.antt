@@ -4,3 +4,4 @@ pub mod Lists
 pub mod Groups
 pub mod Conditions
 pub mod Labels
+pub mod Ranges
