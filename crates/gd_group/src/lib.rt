@@ -5,6 +5,7 @@ mod asked;
 mod joining;
 mod naming;
 mod of_frames;
+mod points;
 mod ranges;
 mod requirement;
 mod sections;
