@@ -4,3 +4,5 @@ pub mod Placed
 pub mod Conditions
 mod KnownValues
 pub mod Counts
+pub mod SectionCounts
+pub mod Members

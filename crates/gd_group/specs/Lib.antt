@@ -5,3 +5,4 @@ pub mod Groups
 pub mod Conditions
 pub mod Labels
 pub mod Ranges
+pub mod Members
