@@ -1,5 +1,5 @@
--- Which placements a group is judged at: how far the file turns and shifts the part, about the part's first point, and how
--- many offsets the group's conditions name.
+-- Which placements a group is judged at: how far the file turns and shifts the part, about the part's first point, and
+-- how many offsets the group's conditions name.
 use Rattle.std.specs.Prelude.{List, [], ◌∷◌, Option, Some, None}
 use Rattle.gd_group.specs.Conditions.{most_offsets}
 use Rattle.gd_points.specs.declared.table.Row.{Row}
