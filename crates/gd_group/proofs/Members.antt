@@ -1,7 +1,7 @@
 -- What is so of each group of a file that was read, and how many groups there are.
-use Rattle.std.proofs.Common.{◌≡◌, ◌∙◌, ap, refl, sym, subst, ℕ, zero, suc, ◌+◌, ◌*◌, ◌≤◌, ◌<◌, ◌^◌, Bool, true, false, cond, ◌&&◌, List, [], ◌∷◌, ◌++◌, length, filter, map, nat_eq, get_or, Option, Some, None, inl, inr, arith}
+use Rattle.std.proofs.Common.{◌≡◌, ◌∙◌, ap, refl, sym, subst, ℕ, suc, ◌+◌, ◌*◌, ◌≤◌, ◌<◌, ◌^◌, Bool, true, false, cond, List, [], ◌∷◌, ◌++◌, length, filter, map, get_or, Option, Some, None, inl, inr, arith}
 use Rattle.std.specs.Prelude.{slice_get}
-use Rattle.std.specs.List.{All, Any, range_with_len}
+use Rattle.std.specs.List.{All, range_with_len}
 use Rattle.std.specs.Option.{IfSome, option_and_then}
 use Rattle.std.proofs.Math.Bool.{beq}
 use Rattle.std.proofs.lemmas.Bool.{eq-eqb, false≢true}
@@ -16,12 +16,12 @@ use Rattle.gd_frames.specs.Counts.{is_joined, joins}
 use Rattle.gd_frames.specs.Facts.{IsFeature, IsFile, IsFrame}
 use Rattle.gd_group.proofs.SectionCounts.{sections-few, sections-seen, some-numbers, some-rows, some-section}
 use Rattle.gd_group.specs.Groups.{begins, groups, is_first, is_partner, joined_by, joined_frame, judged_with, partners, whole, wholes, with_partners}
-use Rattle.gd_group.specs.Members.{HasJudged, IsGroup, feature_in, section_of}
+use Rattle.gd_group.specs.Members.{HasJudged, IsGroup, feature_in}
 use Rattle.gd_group.specs.Requirements.{first_feature, form_feature, lower_part, of_frame, of_frames, parts, requirement, requirements, sections}
 use Rattle.gd_group.specs.declared.requirement.Part.{Part}
 use Rattle.gd_group.specs.declared.requirement.Part.TheVariants as part
 use Rattle.gd_group.specs.declared.requirement.Requirement.{Requirement}
-use Rattle.gd_points.specs.Index.{is_of, is_of_group, numbers_where}
+use Rattle.gd_points.specs.Index.{is_of}
 use Rattle.gd_points.specs.Table.{HasRows, Table}
 use Rattle.gd_points.specs.declared.table.Row.{Row}
 use Rattle.gd_tables.specs.Kinds.{File, Frame}
@@ -30,7 +30,6 @@ use Rattle.gd_tables.specs.declared.file.FeatureDef.{FeatureDef}
 use Rattle.gd_tables.specs.declared.kind.Kind.{Kind}
 use Rattle.gd_tables.specs.declared.kind.Kind.TheVariants as kind
 use Rattle.gd_vec.specs.Vector.{IsWithin}
-use Rattle.gd_vec.specs.declared.vector.V3.{V3}
 
 -- ---- a joined frame is joined to itself
 same-word : (w : DatumRef) → same_word w w ≡ true
@@ -215,7 +214,6 @@ module _ (points : Table) (file : File) (was : IsFile points file) where
 
           at-place : (place : ℕ) → place < length file.features → 0 < length (listed_at (sections points.rows) (slice_get file.features place))
           at-place place less =
-              let d = slice_get file.features place in
               elim ((slice_get_cases file.features place).1) [
                 | inl (def, within, is, same) ↦
                     let feature = subst (λ o. IfSome o (IsFeature (length points.names))) is (found file.features (IsFeature (length points.names)) place was.features) in
