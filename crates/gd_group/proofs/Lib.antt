@@ -6,3 +6,4 @@ mod KnownValues
 pub mod Counts
 pub mod SectionCounts
 pub mod Members
+mod KnownRanges
