@@ -4,13 +4,23 @@ ghost use Rattle.gd_group.specs.Labels.{label, more_names, name_of, suffix};
 ghost use Rattle.gd_tables.specs.Kinds.{file_of};
 
 use crate::requirement::{Part, Requirement};
-use gd_base::Memory;
+use gd_base::{Memory, Name2};
 use gd_frames::{FrameDef, FrameFile};
 use std::alloc::Global;
+use std::str;
 
-/// The label of a group, as bytes: the names of its requirements joined by `+` (docs/FORMATS.md, "Groups of
-/// requirements").
-pub fn label(alloc: Global, file: &FrameFile, group: &[Requirement]) -> Result<Vec<u8>, Memory>
+/// The label of a group: the names of its requirements joined by `+` (docs/FORMATS.md, "Groups of requirements").
+pub fn label(alloc: Global, file: &FrameFile, group: &[Requirement]) -> Result<Name2, Memory>
+    ensures { IfOk result (λ name. name ≡ label (file_of file.now) group.now) }
+{
+    let bytes = label_bytes(alloc, file, group)?;
+    match str::from_utf8(&bytes) {
+        Ok(text) => Name2::of(alloc, text),
+        Err(_) => Err(Memory),
+    }
+}
+
+fn label_bytes(alloc: Global, file: &FrameFile, group: &[Requirement]) -> Result<Vec<u8>, Memory>
     ensures { IfOk result (λ v. v.items ≡ label (file_of file.now) group.now) }
 {
     let mut text = Vec::new(alloc);
