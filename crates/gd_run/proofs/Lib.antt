@@ -1,8 +1,15 @@
 pub mod Reported
+pub mod Worded
 pub mod Asked
+pub mod Asking
+pub mod Judgements
+pub mod Grouped
+pub mod GroupClaimed
 pub mod Taken
 pub mod Ended
 pub mod Laws
 pub mod Certified
+pub mod FilesRead
 pub mod Claimed
+pub mod Says
 pub mod Stored

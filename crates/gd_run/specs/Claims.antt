@@ -1,5 +1,5 @@
 -- What a run's text says of the points of a file.
-use Rattle.std.specs.Prelude.{ℕ, ◌≡◌, ◌≤◌, ◌⊎◌, true, List, [], ◌∷◌, Some, Ok, length, take}
+use Rattle.std.specs.Prelude.{ℕ, ◌≡◌, ◌≤◌, ◌⊎◌, true, List, [], ◌∷◌, Some, Ok, length, map, take}
 use Rattle.gd_base.specs.Limits.{FILE_BYTES}
 use Rattle.gd_base.specs.declared.verdict.Counts.{Counts}
 use Rattle.gd_cells.specs.Meaning.{Questions}
@@ -11,13 +11,16 @@ use Rattle.gd_cells.specs.Witnesses.{witness_of}
 use Rattle.gd_check.specs.Right.{IsRight}
 use Rattle.gd_flat.specs.FlatTask.{direction_at, questions_of}
 use Rattle.gd_flat.specs.Flatness.{IsFlat, IsFlatAlong}
+use Rattle.gd_group.specs.Tasks as group
 use Rattle.gd_points.specs.Table.{Table}
 use Rattle.gd_points.specs.declared.table.Row.{Row}
 use Rattle.gd_report.specs.Texts.{accept_text, invalid_text, open_text, reject_text, valid_text}
-use Rattle.gd_run.specs.Asks.{Asks, ForCheckFlat, ForFlat}
+use Rattle.gd_run.specs.Asks.{Ask, Asks, ForCheck, ForCheckFlat, ForFlat, ForJudge, store_of}
 use Rattle.gd_run.specs.CheckFlatCommand.{CheckFlat}
 use Rattle.gd_run.specs.FlatCommand.{Flat}
-use Rattle.gd_run.specs.Inputs.{points_file}
+use Rattle.gd_run.specs.Inputs.{frames_file, points_file}
+use Rattle.gd_run.specs.JudgeCommand.{Judge}
+use Rattle.gd_tables.specs.Kinds.{File}
 use Rattle.gd_verdict.specs.Trees.{tree}
 use Rattle.gd_verdict.specs.Verdict.{IsVerdict}
 use Rattle.gd_verdict.specs.Verdict as verdict
@@ -30,6 +33,13 @@ pub record HasTable (files : Files) (name : List ℕ) : Type 0 where
   pub held : files name ≡ Some bytes
   pub table : Table
   pub read : points_file bytes ≡ Ok table
+
+-- the frame file of a name, as it was read beside a table
+pub record HasFrames (files : Files) (points : Table) (name : List ℕ) : Type 0 where
+  pub bytes : List ℕ
+  pub held : files name ≡ Some bytes
+  pub file : File
+  pub read : frames_file points bytes ≡ Ok file
 
 -- along no direction at all are the points flat to the tolerance
 abbrev pub IsFlatNowhere : List Row → ℕ → Type 0
@@ -77,18 +87,18 @@ SaysOfPoints rows tolerance budget (Open counts lines) =
     IsVerdict (questions_of rows tolerance) budget (verdict.Open (tree (questions_of rows tolerance) counts.level)
     counts)
 
--- the bytes are a certificate of the written requirement of a task, and it is right
-pub record IsValidFor (q : Questions) (bytes : List ℕ) : Type 0 where
+-- the bytes are a certificate of some tasks, as they are written, and it is right
+pub record IsValidFor (qs : List Questions) (bytes : List ℕ) : Type 0 where
   pub short : length bytes ≤ FILE_BYTES
   pub certificate : Certificate
   pub fits : IsInBounds certificate
   pub spelled : bytes ≡ text certificate
   pub plain : certificate.heading ≡ Plain
-  pub right : IsRight (q ∷ []) certificate
+  pub right : IsRight qs certificate
 
 -- what a right certificate of flatness says is so
 pub record IsTrueFor (rows : List Row) (tolerance : ℕ) (bytes : List ℕ) : Type 0 where
-  pub valid : IsValidFor (questions_of rows tolerance) bytes
+  pub valid : IsValidFor (questions_of rows tolerance ∷ []) bytes
   pub group : Body
   pub only : valid.certificate.groups ≡ group ∷ []
   pub says : SaysOfPoints rows tolerance valid.certificate.share group
@@ -111,35 +121,50 @@ pub record IsInvalid (words : List (List ℕ)) (files : Files) (printed : List �
   pub input : HasTable files check.points
   pub bytes : List ℕ
   pub held : files check.certificate ≡ Some bytes
-  pub wrong : IsValidFor (questions_of input.table.rows check.tolerance) bytes → ⊥
+  pub wrong : IsValidFor (questions_of input.table.rows check.tolerance ∷ []) bytes → ⊥
   pub line : ℕ
   pub code : ℕ
   pub text : printed ≡ invalid_text line code
 
--- ---- what a run leaves under the word of the certificate of `flat`
+-- ---- what a run leaves under the word of a certificate
 -- a certificate that is valid for the points of the file, as they were read, and the tolerance
-pub record HoldsValid (old new : Files) (flat : Flat) (name : List ℕ) : Type 0 where
-  pub input : HasTable old flat.points
+pub record IsFlatCertificate (files : Files) (flat : Flat) (bytes : List ℕ) : Type 0 where
+  pub input : HasTable files flat.points
+  pub valid : IsValidFor (questions_of input.table.rows flat.tolerance ∷ []) bytes
+
+-- a certificate that is valid for all groups of the frame file over the points, as both were read
+pub record IsJudgeCertificate (files : Files) (judge : Judge) (bytes : List ℕ) : Type 0 where
+  pub input : HasTable files judge.points
+  pub frames : HasFrames files input.table judge.frames
+  pub valid : IsValidFor (map group.questions_of (group.all_asked frames.file input.table.rows)) bytes
+
+-- the certificate of what was asked: a check makes none
+abbrev pub IsCertificateOf : Files → Ask → List ℕ → Type 0
+IsCertificateOf files (ForFlat flat) bytes = IsFlatCertificate files flat bytes
+IsCertificateOf files (ForCheckFlat check) bytes = ⊥
+IsCertificateOf files (ForJudge judge) bytes = IsJudgeCertificate files judge bytes
+IsCertificateOf files (ForCheck check) bytes = ⊥
+
+-- a name holds such a certificate
+pub record HoldsValid (old new : Files) (ask : Ask) (name : List ℕ) : Type 0 where
   pub bytes : List ℕ
   pub held : new name ≡ Some bytes
-  pub valid : IsValidFor (questions_of input.table.rows flat.tolerance) bytes
+  pub valid : IsCertificateOf old ask bytes
 
 -- the first bytes of such a certificate
-pub record HoldsFront (old new : Files) (flat : Flat) (name : List ℕ) : Type 0 where
-  pub input : HasTable old flat.points
+pub record HoldsFront (old new : Files) (ask : Ask) (name : List ℕ) : Type 0 where
   pub bytes : List ℕ
   pub count : ℕ
   pub held : new name ≡ Some (take count bytes)
-  pub valid : IsValidFor (questions_of input.table.rows flat.tolerance) bytes
+  pub valid : IsCertificateOf old ask bytes
 
 -- a verdict stored what is valid
 abbrev pub StoresValid : List (List ℕ) → Files → Files → Type 0
-StoresValid words old new = (flat : Flat) (name : List ℕ) → Asks words (ForFlat flat) → flat.certificate ≡ Some name
-    → HoldsValid old new flat name
+StoresValid words old new = (ask : Ask) (name : List ℕ) → Asks words ask → store_of ask ≡ Some name
+    → HoldsValid old new ask name
 
 -- however a run ends, the word of the certificate holds a valid certificate, or what it held, or, where its store
 -- failed, the first bytes of a valid certificate
 abbrev pub LeavesValid : List (List ℕ) → Files → Files → Word → Type 0
-LeavesValid words old new failed = (flat : Flat) (name : List ℕ) → Asks words (ForFlat flat)
-    → flat.certificate ≡ Some name
-    → HoldsValid old new flat name ⊎ ((new name ≡ old name) ⊎ (IsWord failed name true × HoldsFront old new flat name))
+LeavesValid words old new failed = (ask : Ask) (name : List ℕ) → Asks words ask → store_of ask ≡ Some name
+    → HoldsValid old new ask name ⊎ ((new name ≡ old name) ⊎ (IsWord failed name true × HoldsFront old new ask name))

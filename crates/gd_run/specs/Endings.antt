@@ -6,7 +6,8 @@ use Rattle.gd_report.specs.Said.{status_of}
 use Rattle.gd_report.specs.Texts.{cannot_read_text}
 use Rattle.gd_run.specs.Answers.{Answer, Store}
 use Rattle.gd_run.specs.Asks.{Ask, Asks, IsNoCommand, inputs_of, store_of}
-use Rattle.gd_run.specs.Claims.{IsAccept, IsValid}
+use Rattle.gd_run.specs.Claims.{IsAccept, IsInvalid, IsOpen, IsReject, IsValid}
+use Rattle.gd_run.specs.GroupClaims.{AreGroupsInvalid, AreGroupsValid, IsJudgedAccept, IsJudgedOpen, IsJudgedReject}
 use Rattle.gd_run.specs.Runs.{IsAnswer, IsNext, IsPossible, IsToRead}
 use Rattle.gd_world.specs.Shelf.{Files, IsWord, Puts, PutsPrefix, SameFiles, Word}
 
@@ -131,10 +132,25 @@ pub record Prints (Says : List ℕ → Type 0) (before now : List ℕ) : Type 0 
   pub so : Says printed
   pub written : now ≡ before ++ printed
 
--- status 0: an accept, or a valid certificate
+-- status 0: an accept, of the points or of each group, or a valid certificate
 abbrev pub EndsInZero : List (List ℕ) → Files → List ℕ → List ℕ → Type 0
-EndsInZero words files before now = Prints (λ printed. IsAccept words files printed
-    ⊎ IsValid words files printed) before now
+EndsInZero words files before now = Prints (λ printed. IsAccept words files printed ⊎ (IsValid words files printed
+    ⊎ (IsJudgedAccept words files printed ⊎ AreGroupsValid words files printed))) before now
+
+-- status 1: a reject, of the points or of some group
+abbrev pub EndsInOne : List (List ℕ) → Files → List ℕ → List ℕ → Type 0
+EndsInOne words files before now =
+    Prints (λ printed. IsReject words files printed ⊎ IsJudgedReject words files printed) before now
+
+-- status 2: an open verdict, of the points or of some group, and no reject
+abbrev pub EndsInTwo : List (List ℕ) → Files → List ℕ → List ℕ → Type 0
+EndsInTwo words files before now =
+    Prints (λ printed. IsOpen words files printed ⊎ IsJudgedOpen words files printed) before now
+
+-- status 8: an invalid certificate
+abbrev pub EndsInEight : List (List ℕ) → Files → List ℕ → List ℕ → Type 0
+EndsInEight words files before now =
+    Prints (λ printed. IsInvalid words files printed ⊎ AreGroupsInvalid words files printed) before now
 
 -- the shelf was called at most once for each input of the command
 abbrev pub ReadsFew : List (List ℕ) → ℕ → ℕ → Type 0

@@ -1,10 +1,15 @@
 pub mod Inputs
 pub mod Answers
+pub mod GroupReports
+pub mod GroupVerdicts
 pub mod FlatCommand
 pub mod CheckFlatCommand
+pub mod JudgeCommand
+pub mod CheckCommand
 pub mod Asks
 pub mod Runs
 pub mod Claims
+pub mod GroupClaims
 pub mod Endings
 pub mod Views
 pub mod Reports

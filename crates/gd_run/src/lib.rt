@@ -2,11 +2,15 @@
 #![tactic(auto)]
 
 mod certificate;
+mod check;
 mod checkflat;
 mod command;
 mod decision;
 mod flat;
 mod inputs;
+mod judge;
+mod judgement;
+mod layout;
 mod program;
 mod reading;
 mod report;

@@ -8,8 +8,9 @@ ghost use Rattle.gd_report.specs.Said.{status_of};
 ghost use Rattle.gd_report.specs.Texts.{cannot_read_text, wrong_words_text};
 ghost use Rattle.gd_report.specs.declared.ending.Ending.TheVariants as ending;
 ghost use Rattle.gd_run.specs.Asks.{IsNoCommand, inputs_of};
-ghost use Rattle.gd_run.specs.Claims.{IsInvalid, IsOpen, IsReject, LeavesValid, StoresValid};
-ghost use Rattle.gd_run.specs.Endings.{Answers, CallsFew, Ends, EndsInZero, FailedToRead, Prints, ReadsFew, StoresDone};
+ghost use Rattle.gd_run.specs.Claims.{LeavesValid, StoresValid};
+ghost use Rattle.gd_run.specs.Endings.{Answers, CallsFew, Ends, EndsInEight, EndsInOne, EndsInTwo, EndsInZero, FailedToRead};
+ghost use Rattle.gd_run.specs.Endings.{ReadsFew, StoresDone};
 ghost use Rattle.gd_run.specs.Inputs.{IsTurn, IsWordOf, nothing_given};
 ghost use Rattle.gd_run.specs.Reports.{HasReport, IsPlain, IsUnreadAnd, OnReport, PutFails, StoreFails, stores_wanted};
 ghost use Rattle.gd_run.specs.Runs.{IsAnswer, IsAnswerOf, IsAnswerTo, IsNext, IsPossible, IsToRead};
@@ -257,27 +258,27 @@ pub fn run<R: Threads + Sync, S: Shelf, O: Sink>(
         → Answers (map string_bytes words.now.items) (S.holds shelf.old) (S.holds shelf.new) (O.written out.old)
         (O.written out.new) result.0 }
 
-    // With 0 it printed an accept, with a direction along which no two points are further apart than the tolerance, or
-    // `valid` for a certificate that is right.
+    // With 0 it printed an accept, with a direction along which no two points are further apart than the tolerance; or
+    // that each group is accepted, and the witness of each in the certificate meets what the group asks; or `valid` for a
+    // certificate that is right.
     ensures zero { S.tells ≡ true → O.tells ≡ true → result.0 ≡ 0
         → EndsInZero (map string_bytes words.now.items) (S.holds shelf.old) (O.written out.old) (O.written out.new) }
 
-    // With 1 it printed a reject: along no direction are all points within the tolerance.
+    // With 1 it printed a reject: along no direction are all points within the tolerance; or some group is rejected, and
+    // nothing meets what it asks.
     ensures reject { S.tells ≡ true → O.tells ≡ true → result.0 ≡ 1
-        → Prints (IsReject (map string_bytes words.now.items) (S.holds shelf.old)) (O.written out.old)
-        (O.written out.new) }
+        → EndsInOne (map string_bytes words.now.items) (S.holds shelf.old) (O.written out.old) (O.written out.new) }
 
-    // With 2 it printed an open verdict, which is the verdict for the budget.
+    // With 2 it printed an open verdict, which is the verdict for the budget; or no group is rejected and some is open,
+    // which is its verdict for its share of the budget.
     ensures open { S.tells ≡ true → O.tells ≡ true → result.0 ≡ 2
-        → Prints (IsOpen (map string_bytes words.now.items) (S.holds shelf.old)) (O.written out.old)
-        (O.written out.new) }
+        → EndsInTwo (map string_bytes words.now.items) (S.holds shelf.old) (O.written out.old) (O.written out.new) }
 
     // With 8 it printed the first wrong line of a certificate, which isn't right.
     ensures invalid { S.tells ≡ true → O.tells ≡ true → result.0 ≡ 8
-        → Prints (IsInvalid (map string_bytes words.now.items) (S.holds shelf.old)) (O.written out.old)
-        (O.written out.new) }
+        → EndsInEight (map string_bytes words.now.items) (S.holds shelf.old) (O.written out.old) (O.written out.new) }
 
-    // What a verdict stored as its certificate is valid for the points as they were read.
+    // What a verdict stored as its certificate is valid for the files as they were read.
     ensures stored { S.tells ≡ true → result.0 ≤ 2
         → StoresValid (map string_bytes words.now.items) (S.holds shelf.old) (S.holds shelf.new) }
 

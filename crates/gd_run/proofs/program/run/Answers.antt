@@ -1,6 +1,6 @@
 use Rattle.std.proofs.Common.{arith, ◌≡◌, ◌∙◌, sym}
 use Rattle.gd_report.specs.Said.{status_of}
-use Rattle.gd_run.proofs.Claimed.{means}
+use Rattle.gd_run.proofs.Says.{means}
 use Rattle.gd_run.proofs.Laws.{answer_told, answered}
 use Rattle.gd_run.proofs.Stored.{leaves_valid, stores_valid}
 use Rattle.gd_run.proofs.program.run.Goals as goal
