@@ -7,3 +7,5 @@ pub mod Counts
 pub mod SectionCounts
 pub mod Members
 mod KnownRanges
+pub mod FormFacts
+pub mod TaskLists

@@ -6,3 +6,5 @@ pub mod Conditions
 pub mod Labels
 pub mod Ranges
 pub mod Members
+pub mod Tasks
+pub mod TaskLaws

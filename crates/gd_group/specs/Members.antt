@@ -1,22 +1,17 @@
 -- For the proof, and cited by private functions alone: what is so of each group of a file that was read.
-use Rattle.std.specs.Prelude.{ℕ, ◌≡◌, ◌<◌, List, Option, Some, None, length, slice_get}
+use Rattle.std.specs.Prelude.{◌≡◌, ◌<◌, ◌≤◌, ◌^◌, List, Option, length, slice_get}
 use Rattle.std.specs.List.{All}
 use Rattle.std.specs.Option.{IfSome, option_and_then}
+use Rattle.gd_base.specs.Limits.{TOLERANCE}
 use Rattle.gd_flat.specs.Judged.{numbers_of}
+use Rattle.gd_form.specs.declared.form.FormDef.{FormDef}
 use Rattle.gd_group.specs.Groups.{judged_with}
-use Rattle.gd_group.specs.Requirements.{form_feature}
-use Rattle.gd_group.specs.declared.requirement.Part.{Part}
-use Rattle.gd_group.specs.declared.requirement.Part.TheVariants as part
+use Rattle.gd_group.specs.Requirements.{form_feature, section_of}
 use Rattle.gd_group.specs.declared.requirement.Requirement.{Requirement}
 use Rattle.gd_points.specs.declared.table.Row.{Row}
 use Rattle.gd_tables.specs.Kinds.{File}
 use Rattle.gd_tables.specs.declared.file.FeatureDef.{FeatureDef}
-
--- the section that a requirement is of, if it's one of a circularity
-abbrev pub section_of : Part → Option ℕ
-section_of part.Whole = None
-section_of part.Lower = None
-section_of (part.Section group) = Some group
+use Rattle.gd_vec.specs.Vector.{IsWithin}
 
 -- the first feature of a requirement's frame
 abbrev pub feature_in : File → Requirement → Option FeatureDef
@@ -32,3 +27,11 @@ pub record IsGroup (file : File) (rows : List Row) (group : List Requirement) : 
   pub first : Requirement
   pub together : group ≡ judged_with file first
   pub judged : All (HasJudged file rows) group
+
+-- a form whose feature, or section of it, has a point, and whose numbers are in their ranges
+pub record IsForm (rows : List Row) (def : FormDef) : Type 0 where
+  pub some : 0 < length (numbers_of def.feature def.group rows)
+  pub direction : IsWithin (2 ^ 10) def.direction
+  pub point : IsWithin (2 ^ 26) def.point
+  pub shift : def.shift ≤ 28
+  pub tolerance : def.tolerance ≤ TOLERANCE
