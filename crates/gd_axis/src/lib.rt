@@ -15,7 +15,6 @@ mod ring;
 mod task;
 #[cfg(test)]
 mod tests;
-mod wide;
 
 pub use axis_box::AxisBox;
 pub use axis_def::{AxisDef, axis_task};
