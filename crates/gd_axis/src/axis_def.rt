@@ -3,7 +3,7 @@ ghost use Rattle.std.specs.Prelude.{◌≡◌, ◌<◌, ◌≤◌, ◌^◌, ◌-
 ghost use Rattle.gd_axis.specs.Sizes.{DIRECTION_SIZE, POINT_SIZE};
 ghost use Rattle.gd_base.specs.Limits.{TOLERANCE};
 ghost use Rattle.gd_dir.specs.declared.shape.FormShape.TheVariants.{Flat, Line};
-ghost use Rattle.gd_axis.specs.AxisBoxes.{IsLeastPower};
+ghost use Rattle.gd_axis.specs.AxisBoxes.{IsLeastPower, least_power};
 ghost use Rattle.gd_flat.specs.FlatTests.{point_at};
 ghost use Rattle.gd_vec.specs.Vector.{IsWithin};
 
@@ -47,6 +47,17 @@ fn bits_above(tolerance: u32) -> u32
     24
 }
 
+// The least number of bits with 2^bits at least a tolerance, as a function of it.
+#[tactic(auto, using(crate::proofs::Powers::power_is))]
+fn shift_above(tolerance: u32) -> u32
+    requires { tolerance ≤ TOLERANCE }
+    ensures least { IsLeastPower tolerance result }
+    ensures power { result ≡ least_power tolerance }
+    ensures few { result ≤ 24 }
+{
+    bits_above(tolerance)
+}
+
 /// The task of a form about an axis over the points that are judged. A line's own point is the first of them, and its
 /// axis is looked for within 2^b units of that, where b is the least with 2^b at least the tolerance.
 pub fn axis_task<'a>(judged: Judged<'a>, def: &AxisDef) -> AxisTask<'a>
@@ -63,6 +74,7 @@ pub fn axis_task<'a>(judged: Judged<'a>, def: &AxisDef) -> AxisTask<'a>
     ensures point { (def.now.shape ≡ Line → ⊥) → result.own ≡ def.now.point }
     ensures shift { (def.now.shape ≡ Line → ⊥) → result.shift ≡ def.now.shift }
     ensures reach { def.now.shape ≡ Line → IsLeastPower def.now.tolerance result.shift }
+    ensures power { def.now.shape ≡ Line → result.shift ≡ least_power def.now.tolerance }
 {
     match def.shape {
         FormShape::Line => line_task(judged, def),
@@ -83,12 +95,13 @@ fn line_task<'a>(judged: Judged<'a>, def: &AxisDef) -> AxisTask<'a>
     ensures rows { result.judged.points.table.now.rows ≡ judged.entry.points.table.now.rows }
     ensures numbers { result.judged.numbers.now ≡ judged.entry.numbers.now }
     ensures reach { IsLeastPower def.now.tolerance result.shift }
+    ensures power { result.shift ≡ least_power def.now.tolerance }
 {
     AxisTask {
         shape: def.shape,
         direction: def.direction,
         own: point_of(&judged.points, number_at(&judged, 0)),
-        shift: bits_above(def.tolerance),
+        shift: shift_above(def.tolerance),
         tolerance: def.tolerance,
         judged,
     }

@@ -13,8 +13,6 @@ mod places;
 mod points;
 mod ring;
 mod task;
-#[cfg(test)]
-mod tests;
 
 pub use axis_box::AxisBox;
 pub use axis_def::{AxisDef, axis_task};

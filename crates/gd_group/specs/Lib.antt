@@ -4,3 +4,5 @@ pub mod Lists
 pub mod Groups
 pub mod Conditions
 pub mod Labels
+pub mod Ranges
+pub mod Members
