@@ -1,10 +1,11 @@
 // The extremes of the squared distances of points from the axes of a box. They don't depend on the tolerance.
-ghost use Rattle.std.specs.Prelude.{◌≡◌, ◌<◌, ◌≤◌, ◌^◌, ◌*ℤ◌, ◌≤ℤ◌, pos, get_or, int_le, length, take, unsigned_abs};
+ghost use Rattle.std.specs.Prelude.{◌≡◌, ◌<◌, ◌≤◌, ◌*ℤ◌, ◌≤ℤ◌, pos, get_or, int_le, length, take, unsigned_abs};
 ghost use Rattle.std.specs.Int.{int_max, int_min};
 ghost use Rattle.gd_axis.specs.AxisBoxes.{IsDistance, IsDistance2};
 ghost use Rattle.gd_axis.specs.AxisTests.{far_ends, lower_ends, near_ends, upper_ends};
 ghost use Rattle.gd_flat.specs.FlatTests.{greatest, least, place_of};
 ghost use Rattle.gd_interval.specs.Formulas.{IsRootAbove, IsRootBelow};
+ghost use Rattle.gd_interval.specs.Interval.{ROOM};
 ghost use Rattle.gd_zone.specs.Tests.{ceil_root, floor_root};
 
 use crate::axis::value;
@@ -109,7 +110,7 @@ fn root_below(a: i128) -> i128
 #[inline(always)]
 fn root_above(a: i128) -> i128
     requires sign { pos 0 ≤ℤ a }
-    requires size { unsigned_abs a < 2 ^ 126 }
+    requires size { unsigned_abs a < ROOM }
     ensures { IsRootAbove result a }
 {
     isqrt_ceil(a as u128) as i128

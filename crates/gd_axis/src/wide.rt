@@ -1,11 +1,12 @@
 // Sums and products of 128 bits, one operation each.
-ghost use Rattle.std.specs.Prelude.{◌≡◌, ◌*◌, ◌<◌, ◌^◌, ◌-ℤ◌, ◌*ℤ◌, unsigned_abs};
+ghost use Rattle.std.specs.Prelude.{◌≡◌, ◌*◌, ◌<◌, ◌-ℤ◌, ◌*ℤ◌, unsigned_abs};
 ghost use Rattle.std.specs.Int.{int_max, int_min};
+ghost use Rattle.gd_interval.specs.Interval.{ROOM};
 
 // The difference of two.
 #[inline(always)]
 pub fn minus(a: i128, b: i128) -> i128
-    requires { unsigned_abs (a -ℤ b) < 2 ^ 126 }
+    requires { unsigned_abs (a -ℤ b) < ROOM }
     ensures { result ≡ a -ℤ b }
 {
     a - b
@@ -14,7 +15,7 @@ pub fn minus(a: i128, b: i128) -> i128
 // The product of two.
 #[inline(always)]
 pub fn times(a: i128, b: i128) -> i128
-    requires { unsigned_abs a * unsigned_abs b < 2 ^ 126 }
+    requires { unsigned_abs a * unsigned_abs b < ROOM }
     ensures { result ≡ a *ℤ b }
 {
     a * b

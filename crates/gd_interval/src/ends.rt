@@ -1,10 +1,11 @@
-ghost use Rattle.std.specs.Prelude.{◌≡◌, ◌*◌, ◌<◌, ◌^◌, ◌+ℤ◌, ◌-ℤ◌, ◌*ℤ◌, unsigned_abs};
+ghost use Rattle.std.specs.Prelude.{◌≡◌, ◌*◌, ◌<◌, ◌+ℤ◌, ◌-ℤ◌, ◌*ℤ◌, unsigned_abs};
 ghost use Rattle.std.specs.Int.{int_min, int_max};
+ghost use Rattle.gd_interval.specs.Interval.{ROOM};
 
 /// The sum of two ends.
 #[inline(always)]
 pub fn plus(a: i128, b: i128) -> i128
-    requires { unsigned_abs (a +ℤ b) < 2 ^ 126 }
+    requires { unsigned_abs (a +ℤ b) < ROOM }
     ensures { result ≡ a +ℤ b }
 {
     a + b
@@ -13,7 +14,7 @@ pub fn plus(a: i128, b: i128) -> i128
 /// The difference of two ends.
 #[inline(always)]
 pub fn minus(a: i128, b: i128) -> i128
-    requires { unsigned_abs (a -ℤ b) < 2 ^ 126 }
+    requires { unsigned_abs (a -ℤ b) < ROOM }
     ensures { result ≡ a -ℤ b }
 {
     a - b
@@ -22,7 +23,7 @@ pub fn minus(a: i128, b: i128) -> i128
 /// The product of two ends.
 #[inline(always)]
 pub fn times(a: i128, b: i128) -> i128
-    requires { unsigned_abs a * unsigned_abs b < 2 ^ 126 }
+    requires { unsigned_abs a * unsigned_abs b < ROOM }
     ensures { result ≡ a *ℤ b }
 {
     a * b
