@@ -3,13 +3,9 @@
 
 mod combination;
 mod counts;
-#[cfg(test)]
-mod file_tests;
 mod groups;
 mod needs;
 mod read;
-#[cfg(test)]
-mod tests;
 
 pub use gd_tables::{
     DatumDef, DatumRef, FeatureDef, FrameDef, FrameFile, Kind, Material, Shape, Turn,
