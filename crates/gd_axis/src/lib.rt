@@ -13,7 +13,6 @@ mod places;
 mod points;
 mod ring;
 mod task;
-mod wide;
 
 pub use axis_box::AxisBox;
 pub use axis_def::{AxisDef, axis_task};

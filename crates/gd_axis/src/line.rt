@@ -12,8 +12,8 @@ use crate::axis::{length2, value};
 use crate::axis_box::AxisBox;
 use crate::extent::value_at;
 use crate::judged::{Judged, is_judged, number_at, point_of};
-use crate::wide::times;
 use gd_cells::Evidence;
+use gd_interval::times;
 
 /// The number of the one condition of a form.
 const FORM: u32 = 1;

@@ -11,32 +11,8 @@ ghost use Rattle.gd_grid.specs.Cells.{is_in_range};
 ghost use Rattle.gd_vec.specs.Vector.{IsWithin};
 
 use gd_cells::Witness;
-use gd_dir::{DirBox, FormShape, direction, leading_axis};
+use gd_dir::{DirBox, FormShape, direction, leading_axis, offset_at};
 use gd_vec::V3;
-
-// The offset of two entries off an axis.
-#[inline]
-fn offset_at(axis: u32, first: i64, second: i64) -> V3
-    ensures { result ≡ offset_at axis first second }
-{
-    match axis {
-        1 => V3 {
-            x: 0,
-            y: first,
-            z: second,
-        },
-        2 => V3 {
-            x: first,
-            y: 0,
-            z: second,
-        },
-        _ => V3 {
-            x: first,
-            y: second,
-            z: 0,
-        },
-    }
-}
 
 // The box of a direction and an offset alone.
 #[inline]

@@ -13,9 +13,9 @@ use crate::axis::{length2, value};
 use crate::axis_box::AxisBox;
 use crate::extent::{extent_of, first_far, first_near, root_down, root_up};
 use crate::judged::{Judged, is_judged, number_at, point_of};
-use crate::wide::minus;
 use gd_cells::Evidence;
 use gd_int::cmp_root;
+use gd_interval::minus;
 use std::cmp::Ordering;
 
 /// The number of the one condition of a form.

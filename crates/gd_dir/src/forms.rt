@@ -111,10 +111,11 @@ fn circle_box(d: &V3, shift: u32, c: &Cell) -> DirBox
     }
 }
 
-// The offset of two entries off an axis.
+/// The offset of two entries, in fine units, at the axes other than a leading one, in ascending order: it is 0 along
+/// that.
 #[inline]
-fn offset_at(axis: u32, first: i64, second: i64) -> V3
-    ensures { result ≡ offset_at axis first second }
+pub fn offset_at(axis: u32, first: i64, second: i64) -> V3
+    ensures value { result ≡ offset_at axis first second }
 {
     match axis {
         1 => V3 {

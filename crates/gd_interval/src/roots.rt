@@ -19,18 +19,18 @@ pub fn root(a: Iv) -> Iv
     between(root_below(a.lo), root_above(a.hi))
 }
 
-/// The root, rounded down.
+/// The root of a number that isn't negative, rounded down.
 #[inline(always)]
-fn root_below(a: i128) -> i128
+pub fn root_below(a: i128) -> i128
     requires { pos 0 ≤ℤ a }
     ensures { IsRootBelow result a }
 {
     isqrt_floor(a as u128) as i128
 }
 
-/// The root, rounded up.
+/// The root of a number that isn't negative and is below 2^126, rounded up.
 #[inline(always)]
-fn root_above(a: i128) -> i128
+pub fn root_above(a: i128) -> i128
     requires sign { pos 0 ≤ℤ a }
     requires size { unsigned_abs a < ROOM }
     ensures { IsRootAbove result a }

@@ -14,7 +14,5 @@ mod layout;
 mod program;
 mod reading;
 mod report;
-#[cfg(test)]
-mod tests;
 
 pub use program::run;
