@@ -62,6 +62,33 @@ fn filled(alloc: Global, pieces: &[Piece], text: &str) -> Result<String, AllocEr
     listed(alloc, whole.as_str())
 }
 
+// What is told of a whole case, which has the points, and the text behind a bar.
+fn told_case(alloc: Global, pieces: &[Piece], whole: &str) -> Result<String, AllocError> {
+    match whole.split_once(" | ") {
+        Some((points, text)) => {
+            let points = filled(alloc, pieces, points)?;
+            let text = filled(alloc, pieces, text)?;
+            told(alloc, points.as_str(), text.as_bytes())
+        }
+        None => told(alloc, whole, b""),
+    }
+}
+
+// Tries a line, which wants this to be told of this case.
+fn try_line(
+    rt: &impl Abort,
+    alloc: Global,
+    pieces: &[Piece],
+    shape: &str,
+    want: &str,
+    case: &str,
+) -> Result<(), Fail> {
+    let whole = shape.replace(alloc, "CASE", case)?;
+    let got = told_case(alloc, pieces, whole.as_str())?;
+    assert_eq!(rt; got.as_str(), want, "{case}");
+    Ok(())
+}
+
 /// Tries each line of a table. It has what is told, and what stands in the shape in place of CASE. The shape has the
 /// points, and the text behind a bar.
 pub(crate) fn try_lines(
@@ -72,13 +99,10 @@ pub(crate) fn try_lines(
     lines: &str,
 ) -> Result<(), Fail> {
     for line in lines.lines() {
-        let (want, case) = line.split_once(" | ").unwrap_or((line, ""));
-        let whole = shape.replace(alloc, "CASE", case)?;
-        let (points, text) = whole.as_str().split_once(" | ").unwrap_or(("", ""));
-        let points = filled(alloc, pieces, points)?;
-        let text = filled(alloc, pieces, text)?;
-        let got = told(alloc, points.as_str(), text.as_bytes())?;
-        assert_eq!(rt; got.as_str(), want, "{line}");
+        match line.split_once(" | ") {
+            Some((want, case)) => try_line(rt, alloc, pieces, shape, want, case)?,
+            None => try_line(rt, alloc, pieces, shape, line, "")?,
+        }
     }
     Ok(())
 }
