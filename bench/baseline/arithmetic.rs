@@ -1,17 +1,14 @@
 //! The arithmetic of gd_int and gd_interval in plain Rust, with the standard library alone: the same drawn numbers, the
 //! same formulas, the same checksums. It is written for a fair comparison of time. Nothing of it is proved.
 
+mod kernels;
+
+use kernels::{CALLS, Draws, ONE, Turn, isqrt_ceil, isqrt_floor, rows, signed_square};
 use std::cmp::Ordering;
 use std::process::ExitCode;
-use std::time::Instant;
 
-const WRONG_WORDS: &str = "arithmetic: KERNEL TURNS [time]";
-/// How many calls a turn has.
-const CALLS: u32 = 256;
 /// How many points one call of a direction takes.
 const POINTS: u32 = 4_096;
-/// 1 as a ratio. Ratios are in 2^-30.
-const ONE: i128 = 1 << 30;
 
 #[derive(Clone, Copy)]
 struct Iv {
@@ -43,57 +40,15 @@ fn quot(n: Iv, d: Iv) -> Iv {
     Iv { lo: (n.lo * ONE).div_euclid(below), hi: div_ceil(n.hi * ONE, above) }
 }
 
-/// The root by a guess that is tested, with std's where the test fails.
-fn isqrt_floor(a: u128) -> u128 {
-    let guess = guessed_root(a);
-    let square = guess * guess;
-    if square <= a && a - square <= 2 * guess { guess } else { a.isqrt() }
-}
-
-/// The root of `a` shifted up to 127 or 128 bits, by the root of the leading 64 and one step of Newton's.
-fn guessed_root(a: u128) -> u128 {
-    let half = (a.leading_zeros() / 2).min(63);
-    let wide = a << (2 * half);
-    let near = u128::from(near_root((wide >> 64) as u64)) << 32;
-    let root = (near.wrapping_add(wide / near) / 2).min(u128::from(u64::MAX));
-    if root * root > wide { root.saturating_sub(1) >> half } else { root >> half }
-}
-
-/// A number near the root of `a`, which has 63 or 64 bits: a parabola through the roots, and two steps of Newton's.
-fn near_root(a: u64) -> u64 {
-    let leading = a >> 48;
-    let bend = (leading * leading * 20_730) >> 16;
-    let first = 16_992 + ((leading * 68_945).saturating_sub(bend) >> 16);
-    let near = (first + (a >> 32) / first) / 2 * 65_536;
-    near.wrapping_add(a / near) / 2 + 1
-}
-
-fn isqrt_ceil(a: u128) -> u128 {
-    let root = isqrt_floor(a);
-    if root * root == a { root } else { root + 1 }
-}
-
 fn root(a: Iv) -> Iv {
     Iv { lo: isqrt_floor(a.lo as u128) as i128, hi: isqrt_ceil(a.hi as u128) as i128 }
-}
-
-fn signed_square(z: i128) -> i128 {
-    z * z.abs()
 }
 
 fn cmp_root(s: i128, h: i128, n2: i128) -> Ordering {
     signed_square(s).cmp(&(signed_square(h) * n2))
 }
 
-/// Numbers that depend on the seed alone.
-struct Draws(u64);
-
 impl Draws {
-    fn small(&mut self) -> i64 {
-        self.0 = self.0.wrapping_mul(6_364_136_223_846_793_005).wrapping_add(1_442_695_040_888_963_407);
-        (self.0 >> 33) as i64
-    }
-
     fn wide(&mut self) -> i128 {
         let high = self.small();
         i128::from(high) * (1 << 31) + i128::from(self.small())
@@ -131,16 +86,8 @@ impl Draws {
     }
 
     fn direction(&mut self) -> [[i64; 2]; 3] {
-        [(); 3].map(|()| {
-            let lo = self.small() % ((1 << 31) - (1 << 20)) - (1 << 30);
-            [lo, lo + self.small() % (1 << 20)]
-        })
+        [(); 3].map(|()| self.ratio())
     }
-}
-
-fn rows<T>(count: u32, draw: impl Fn(&mut Draws) -> T) -> Vec<T> {
-    let mut draws = Draws(7);
-    (0..count).map(|_| draw(&mut draws)).collect()
 }
 
 fn mixed(sum: i128, lo: i128, hi: i128) -> i128 {
@@ -216,7 +163,7 @@ fn ends(n: &[[i64; 2]; 3], points: &[[i64; 3]]) -> [i64; 2] {
 }
 
 /// A kernel with its rows: one turn, from a checksum to the next.
-fn work(kernel: &str) -> Option<Box<dyn Fn(i128) -> i128>> {
+fn work(kernel: &str) -> Option<Turn> {
     let points = rows(POINTS, Draws::point);
     let directions = rows(CALLS, Draws::direction);
     Some(match kernel {
@@ -254,22 +201,5 @@ fn work(kernel: &str) -> Option<Box<dyn Fn(i128) -> i128>> {
 }
 
 fn main() -> ExitCode {
-    let words: Vec<String> = std::env::args().skip(1).collect();
-    let words: Vec<&str> = words.iter().map(String::as_str).collect();
-    let (&[kernel, turns] | &[kernel, turns, "time"]) = &words[..] else {
-        eprintln!("{WRONG_WORDS}");
-        return ExitCode::from(4);
-    };
-    let (Some(turn), Ok(turns)) = (work(kernel), turns.parse::<u32>()) else {
-        eprintln!("{WRONG_WORDS}");
-        return ExitCode::from(4);
-    };
-    let start = Instant::now();
-    let sum = (0..turns).fold(0, |sum, _| turn(sum));
-    let nanoseconds = start.elapsed().as_nanos();
-    match words.get(2) {
-        Some(_) => println!("{sum} {nanoseconds}"),
-        None => println!("{sum}"),
-    }
-    ExitCode::SUCCESS
+    kernels::run("arithmetic", work)
 }

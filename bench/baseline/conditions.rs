@@ -3,15 +3,14 @@
 //!
 //! Ends are in 64 bits but for squares, the matrix is made once a cell, and roots are taken of the extremes alone.
 
-use std::process::ExitCode;
-use std::time::Instant;
+mod kernels;
 
-const WRONG_WORDS: &str = "conditions: KERNEL TURNS [time]";
-/// How many cells a turn has, and how many points the feature.
-const CALLS: u32 = 256;
+use kernels::{CALLS, Draws, ONE, Turn, isqrt_ceil, isqrt_floor, rows, signed_square};
+use std::process::ExitCode;
+
+/// How many points the feature has.
 const MEMBERS: i32 = 1_000;
-/// 1 as a ratio, a half unit in fine units, and the direction of the plane and the axis. The surfaces go through the first point.
-const ONE: i128 = 1 << 30;
+/// A half unit in fine units, and the direction of the plane and the axis. The surfaces go through the first point.
 const HALF: i128 = 1 << 15;
 const DIRECTION: [i64; 3] = [1, 2, 2];
 
@@ -19,38 +18,12 @@ const DIRECTION: [i64; 3] = [1, 2, 2];
 type Iv = [i64; 2];
 type Wide = [i128; 2];
 
-/// The root by a guess that is tested, with std's where the test fails.
-fn isqrt_floor(a: u128) -> u128 {
-    let guess = guessed_root(a);
-    let square = guess * guess;
-    if square <= a && a - square <= 2 * guess { guess } else { a.isqrt() }
-}
-
-/// The root of `a` shifted up to 127 or 128 bits, by the root of the leading 64 and one step of Newton's.
-fn guessed_root(a: u128) -> u128 {
-    let half = (a.leading_zeros() / 2).min(63);
-    let wide = a << (2 * half);
-    let near = u128::from(near_root((wide >> 64) as u64)) << 32;
-    let root = (near.wrapping_add(wide / near) / 2).min(u128::from(u64::MAX));
-    if root * root > wide { root.saturating_sub(1) >> half } else { root >> half }
-}
-
-/// A number near the root of `a`, which has 63 or 64 bits: a parabola through the roots, and two steps of Newton's.
-fn near_root(a: u64) -> u64 {
-    let leading = a >> 48;
-    let bend = (leading * leading * 20_730) >> 16;
-    let first = 16_992 + ((leading * 68_945).saturating_sub(bend) >> 16);
-    let near = (first + (a >> 32) / first) / 2 * 65_536;
-    near.wrapping_add(a / near) / 2 + 1
-}
-
 fn floor_root(c: i128) -> i128 {
     isqrt_floor(c as u128) as i128
 }
 
 fn ceil_root(c: i128) -> i128 {
-    let root = floor_root(c);
-    if root * root == c { root } else { root + 1 }
+    isqrt_ceil(c as u128) as i128
 }
 
 // ---- intervals
@@ -202,10 +175,6 @@ fn from_point(x: Vector) -> Wide {
 
 // ---- comparisons
 
-fn signed_square(z: i128) -> i128 {
-    z * z.abs()
-}
-
 fn length2() -> i128 {
     DIRECTION.iter().map(|&d| i128::from(d * d)).sum()
 }
@@ -294,20 +263,7 @@ fn hug(points: &Points, place: &Place, slack: i64) -> Pair {
 
 // ---- draws, and turns
 
-/// Numbers that depend on the seed alone.
-struct Draws(u64);
-
 impl Draws {
-    fn small(&mut self) -> i64 {
-        self.0 = self.0.wrapping_mul(6_364_136_223_846_793_005).wrapping_add(1_442_695_040_888_963_407);
-        (self.0 >> 33) as i64
-    }
-
-    fn ratio(&mut self) -> Iv {
-        let lo = self.small() % ((1 << 31) - (1 << 20)) - (1 << 30);
-        [lo, lo + self.small() % (1 << 20)]
-    }
-
     fn turn(&mut self) -> [Iv; 4] {
         [[1 << 30; 2], self.ratio(), self.ratio(), self.ratio()]
     }
@@ -322,11 +278,6 @@ impl Draws {
         self.lengths();
         Place { matrix: matrix(&turn), shift, first }
     }
-}
-
-fn rows<T>(draw: impl Fn(&mut Draws) -> T) -> Vec<T> {
-    let mut draws = Draws(7);
-    (0..CALLS).map(|_| draw(&mut draws)).collect()
 }
 
 #[inline(never)]
@@ -347,12 +298,12 @@ fn judged(places: &[Place], start: i128, pair: impl Fn(&Place) -> Pair) -> i128 
 }
 
 /// A kernel with its rows: one turn, from a checksum to the next.
-fn work(kernel: &str) -> Option<Box<dyn Fn(i128) -> i128>> {
+fn work(kernel: &str) -> Option<Turn> {
     let points = members();
-    let places = rows(Draws::place);
+    let places = rows(CALLS, Draws::place);
     Some(match kernel {
         "matrix" => {
-            let rows = rows(Draws::turn);
+            let rows = rows(CALLS, Draws::turn);
             Box::new(move |sum| matrices(&rows, sum))
         }
         "plane" => Box::new(move |sum| judged(&places, sum, |place| plane(&points, place, 182_800))),
@@ -366,22 +317,5 @@ fn work(kernel: &str) -> Option<Box<dyn Fn(i128) -> i128>> {
 }
 
 fn main() -> ExitCode {
-    let words: Vec<String> = std::env::args().skip(1).collect();
-    let words: Vec<&str> = words.iter().map(String::as_str).collect();
-    let (&[kernel, turns] | &[kernel, turns, "time"]) = &words[..] else {
-        eprintln!("{WRONG_WORDS}");
-        return ExitCode::from(4);
-    };
-    let (Some(turn), Ok(turns)) = (work(kernel), turns.parse::<u32>()) else {
-        eprintln!("{WRONG_WORDS}");
-        return ExitCode::from(4);
-    };
-    let start = Instant::now();
-    let sum = (0..turns).fold(0, |sum, _| turn(sum));
-    let nanoseconds = start.elapsed().as_nanos();
-    match words.get(2) {
-        Some(_) => println!("{sum} {nanoseconds}"),
-        None => println!("{sum}"),
-    }
-    ExitCode::SUCCESS
+    kernels::run("conditions", work)
 }

@@ -4,6 +4,7 @@ use Rattle.gd_dir.specs.Boxes.{ORIGIN}
 use Rattle.gd_dir.specs.declared.shape.DirBox.{DirBox}
 use Rattle.gd_dir.specs.declared.shape.FormShape.TheVariants.{Circle, Cylinder}
 use Rattle.gd_axis.specs.Axes.{Axis, distance2, square_of}
+use Rattle.gd_axis.specs.AxisBoxes.{least_power}
 use Rattle.gd_axis.specs.AxisTests.{across, is_inside, is_judged, is_outside, length2_of, value_of}
 use Rattle.gd_vec.specs.declared.vector.V3.{V3}
 use Rattle.gd_zone.specs.Values.{squares_of}
@@ -50,3 +51,7 @@ known_numbers = (refl, refl, refl)
 -- a distance of 3 is in a diameter of 6, and out of one of 5
 known_ties : (is_inside 6 (pos 1) (record { lo = pos 9; hi = pos 9 }) ≡ true) × (is_outside 6 (pos 1) (record { lo = pos 9; hi = pos 9 }) ≡ false) × (is_outside 5 (pos 1) (record { lo = pos 9; hi = pos 9 }) ≡ true)
 known_ties = (refl, refl, refl)
+
+-- 2^0, 2^1, 2^3 and 2^4 are the least powers that are at least 1, 2, 8 and 10
+known_powers : (least_power 0 ≡ 0) × (least_power 1 ≡ 0) × (least_power 2 ≡ 1) × (least_power 8 ≡ 3) × (least_power 10 ≡ 4)
+known_powers = (refl, refl, refl, refl, refl)

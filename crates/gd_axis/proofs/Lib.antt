@@ -4,6 +4,7 @@ mod AxisValues
 pub mod LineLoops
 pub mod Near
 pub mod PlaceFacts
+pub mod Powers
 pub mod Radius
 pub mod RootExtremes
 pub mod Roots

@@ -59,16 +59,18 @@ HasZoneOf Line points t x a = HasCylinder points t x a
 HasZoneOf Circle points t x a = HasRing points t x a
 HasZoneOf Cylinder points t x a = HasRing points t x a
 
--- the axis' point lies within 2^shift units of the form's own point, along each axis of coordinates; that of a line is free
+-- the axis' point lies within 2^shift units of the form's own point, along each axis of coordinates; that of a line is
+-- free
 abbrev pub IsInReach : FormShape → ℕ → Axis → Type 0
 IsInReach Flat shift x = IsNear shift (pos x.scale) x.offset
 IsInReach Line shift x = Unit {0}
 IsInReach Circle shift x = IsNear shift (pos x.scale) x.offset
 IsInReach Cylinder shift x = IsNear shift (pos x.scale) x.offset
 
--- a form is met about an axis that it may take. d is the direction of a circle's section, and the form's own point is at a:
--- for a line the first of its points
-pub record IsMetAbout (shape : FormShape) (points : List V3) (t shift : ℕ) (d a : V3) (axis : ℕ) (x : Axis) : Type 0 where
+-- a form is met about an axis that it may take. d is the direction of a circle's section, and the form's own point is
+-- at a: for a line the first of its points
+pub record IsMetAbout (shape : FormShape) (points : List V3) (t shift : ℕ) (d a : V3) (axis : ℕ)
+    (x : Axis) : Type 0 where
   pub candidate : IsCandidate shape d axis x.direction (pos x.scale) x.offset
   pub reach : IsInReach shape shift x
   pub zone : HasZoneOf shape points t x a

@@ -1,7 +1,9 @@
 -- A form about an axis as a task over the cells of directions and offsets.
-use Rattle.std.specs.Prelude.{ℕ, ℤ, pos, ◌^◌, ◌<◌, ◌≤◌, ◌≡◌, Bool, false, List, [], ◌∷◌, Option, None, get_or, length, unsigned_abs}
+use Rattle.std.specs.Prelude.{ℕ, ℤ, pos, ◌^◌, ◌<◌, ◌≤◌, ◌≡◌, Bool, false, List, [], ◌∷◌, Option, None, get_or, length}
+use Rattle.std.specs.Prelude.{unsigned_abs}
 use Rattle.std.specs.List.{All}
 use Rattle.gd_base.specs.Limits.{POINTS}
+use Rattle.gd_base.specs.Scales.{FINE}
 use Rattle.gd_cells.specs.Meaning.{Questions}
 use Rattle.gd_cells.specs.declared.cell.Cell.{Cell}
 use Rattle.gd_cells.specs.declared.cell.Evidence.{Evidence}
@@ -20,8 +22,8 @@ use Rattle.gd_grid.specs.Cells.{centre_of, is_in_range}
 use Rattle.gd_points.specs.declared.table.Row.{Row}
 use Rattle.gd_vec.specs.declared.vector.V3.{V3}
 
--- what is asked: a shape, the direction of a circle's section, the form's own point, how far to each side its axis may lie from that, in
--- powers of two of units, a tolerance, and the places of the judged points in a table
+-- what is asked: a shape, the direction of a circle's section, the form's own point, how far to each side its axis may
+-- lie from that, in powers of two of units, a tolerance, and the places of the judged points in a table
 pub record Asked : Type 0 where
   pub shape : FormShape
   pub direction : V3
@@ -33,7 +35,15 @@ pub record Asked : Type 0 where
 
 abbrev pub asked_of : FormShape → V3 → V3 → ℕ → ℕ → List Row → List ℕ → Asked
 asked_of shape direction own shift tolerance rows judged =
-    record { shape = shape; direction = direction; own = own; shift = shift; tolerance = tolerance; rows = rows; judged = judged }
+    record {
+      shape = shape;
+      direction = direction;
+      own = own;
+      shift = shift;
+      tolerance = tolerance;
+      rows = rows;
+      judged = judged;
+    }
 
 -- ---- assignments: the number of an axis, a direction, a scale and an offset
 abbrev pub numbers_of_axis : ℕ → V3 → ℕ → V3 → List ℤ
@@ -51,11 +61,13 @@ axis_in a = record {
 
 -- the form is met about the axis
 abbrev pub MeetsForm : Asked → List ℤ → Type 0
-MeetsForm q a = IsMetAbout q.shape (points_at q.rows q.judged) q.tolerance q.shift q.direction q.own (lead_in a) (axis_in a)
+MeetsForm q a = IsMetAbout q.shape (points_at q.rows q.judged) q.tolerance q.shift q.direction q.own (lead_in a)
+    (axis_in a)
 
 -- the axis lies in the cell
 abbrev pub AxisLiesIn : Asked → List ℤ → Cell → Type 0
-AxisLiesIn q a c = FormLiesIn q.shape q.shift c (lead_in a) (axis_in a).direction (pos (axis_in a).scale) (axis_in a).offset
+AxisLiesIn q a c = FormLiesIn q.shape q.shift c (lead_in a) (axis_in a).direction (pos (axis_in a).scale)
+    (axis_in a).offset
 
 -- ---- the tests by the shape. Flatness has no axis, and is another task
 abbrev pub form_evidence : FormShape → List Row → List ℕ → ℕ → DirBox → V3 → Option Evidence
@@ -110,7 +122,8 @@ place_box shape d w = record {
 
 -- its axis
 abbrev pub axis_at : Asked → Witness → List ℤ
-axis_at q w = numbers_of_axis (lead_at q.shape q.direction w) (direction_at q.shape q.direction w) (2 ^ 16) (offset_in q.shape q.direction w)
+axis_at q w = numbers_of_axis (lead_at q.shape q.direction w) (direction_at q.shape q.direction w) FINE
+    (offset_in q.shape q.direction w)
 
 -- ---- the task
 abbrev pub axis_questions : Asked → Questions
@@ -125,7 +138,8 @@ axis_questions q = record {
   };
 }
 
--- what a task may rest on: a line's own point is the first that is judged, and its axis is looked for within the tolerance of that
+-- what a task may rest on: a line's own point is the first that is judged, and its axis is looked for within the
+-- tolerance of that
 pub record IsAsked (q : Asked) : Type 0 where
   pub near : q.shift ≤ 28
   pub line_shift : q.shape ≡ Line → q.tolerance ≤ 2 ^ q.shift

@@ -1,8 +1,10 @@
 -- The written tests of the forms about an axis: values of points over a box of directions and offsets, what refutes the
 -- box, and when it holds. The values don't depend on the tolerance.
-use Rattle.std.specs.Prelude.{ℕ, ℤ, pos, ◌+◌, ◌-◌, ◌^◌, ◌&&◌, ◌*ℤ◌, ◌-ℤ◌, Bool, Option, Some, None, List, get_or, int_le, int_lt, map, nat_eq, nat_le, if◌then◌else◌, option_map}
+use Rattle.std.specs.Prelude.{ℕ, ℤ, pos, ◌+◌, ◌-◌, ◌^◌, ◌&&◌, ◌*ℤ◌, ◌-ℤ◌, Bool, Option, Some, None, List, get_or}
+use Rattle.std.specs.Prelude.{int_le, int_lt, map, nat_eq, nat_le, if◌then◌else◌, option_map}
 use Rattle.std.specs.List.{find, list_all, list_any}
 use Rattle.std.specs.Ordering.{is_gt, is_le}
+use Rattle.gd_base.specs.Scales.{FINE}
 use Rattle.gd_cells.specs.declared.cell.Evidence.{Evidence}
 use Rattle.gd_dir.specs.declared.shape.DirBox.{DirBox}
 use Rattle.gd_dir.specs.declared.shape.FormShape.{FormShape}
@@ -32,7 +34,7 @@ direction_ends b = record { x = span_of b.lo.x b.hi.x; y = span_of b.lo.y b.hi.y
 
 -- from a to p less the offsets, in fine units
 abbrev pub less_offset : ℤ → ℤ → ℤ → ℤ → Ends
-less_offset lo hi a p = span_of (pos (2 ^ 16) *ℤ (p -ℤ a) -ℤ hi) (pos (2 ^ 16) *ℤ (p -ℤ a) -ℤ lo)
+less_offset lo hi a p = span_of (pos FINE *ℤ (p -ℤ a) -ℤ hi) (pos FINE *ℤ (p -ℤ a) -ℤ lo)
 
 abbrev pub from_offset : DirBox → V3 → V3 → VectorEnds
 from_offset b a p = record {
@@ -45,9 +47,14 @@ from_offset b a p = record {
 abbrev pub minor : ℕ → Ends → Ends → Ends → Ends → Ends
 minor bits n z m y = narrowed (difference (product n z) (product m y)) bits
 
--- the cross product of directions and vectors: of the length of the vector's part normal to the direction, times the direction's length
+-- the cross product of directions and vectors: of the length of the vector's part normal to the direction, times the
+-- direction's length
 unfoldable pub across : ℕ → VectorEnds → VectorEnds → VectorEnds
-across bits n y = record { x = minor bits n.y y.z n.z y.y; y = minor bits n.z y.x n.x y.z; z = minor bits n.x y.y n.y y.x }
+across bits n y = record {
+  x = minor bits n.y y.z n.z y.y;
+  y = minor bits n.z y.x n.x y.z;
+  z = minor bits n.x y.y n.y y.x;
+}
 
 -- the squared distance of p from the axis, times the direction's squared length, in squares of fine units
 abbrev pub value_of : FormShape → DirBox → V3 → V3 → Ends
@@ -102,32 +109,39 @@ point_evidence i = record { condition = 1; a = i + 1; b = 0 }
 
 abbrev pub line_refuted : FormShape → List Row → List ℕ → ℕ → DirBox → V3 → Evidence → Bool
 line_refuted shape rows judged t b a e =
-    nat_eq e.condition 1 && (is_judged judged e.a && (nat_eq e.b 0 && is_outside t (length2_of shape b).hi (value_at shape b a rows (e.a - 1))))
+    nat_eq e.condition 1 && (is_judged judged e.a
+    && (nat_eq e.b 0 && is_outside t (length2_of shape b).hi (value_at shape b a rows (e.a - 1))))
 
 -- the first point that lies outside
 abbrev pub line_evidence : FormShape → List Row → List ℕ → ℕ → DirBox → V3 → Option Evidence
 line_evidence shape rows judged t b a =
-    option_map point_evidence (find (λ (i : ℕ). is_outside t (length2_of shape b).hi (value_at shape b a rows i)) judged)
+    option_map point_evidence
+    (find (λ (i : ℕ). is_outside t (length2_of shape b).hi (value_at shape b a rows i)) judged)
 
 abbrev pub line_holds : FormShape → List Row → List ℕ → ℕ → DirBox → V3 → Bool
-line_holds shape rows judged t b a = list_all (λ (i : ℕ). is_inside t (length2_of shape b).lo (value_at shape b a rows i)) judged
+line_holds shape rows judged t b a =
+    list_all (λ (i : ℕ). is_inside t (length2_of shape b).lo (value_at shape b a rows i)) judged
 
 -- ---- circularity and cylindricity
 -- the point at one place is further from each axis of the box than that at another by more than the tolerance
 abbrev pub ring_parts : FormShape → List Row → ℕ → DirBox → V3 → ℕ → ℕ → Bool
 ring_parts shape rows t b a i j =
-    is_gt (cmp_root_of (floor_root (value_at shape b a rows i).lo -ℤ ceil_root (value_at shape b a rows j).hi) (pos t) (length2_of shape b).hi)
+    is_gt (cmp_root_of (floor_root (value_at shape b a rows i).lo -ℤ ceil_root (value_at shape b a rows j).hi) (pos t)
+    (length2_of shape b).hi)
 
 abbrev pub ring_refuted : FormShape → List Row → List ℕ → ℕ → DirBox → V3 → Evidence → Bool
 ring_refuted shape rows judged t b a e =
-    nat_eq e.condition 1 && (is_judged judged e.a && (is_judged judged e.b && ring_parts shape rows t b a (e.a - 1) (e.b - 1)))
+    nat_eq e.condition 1 && (is_judged judged e.a
+    && (is_judged judged e.b && ring_parts shape rows t b a (e.a - 1) (e.b - 1)))
 
 -- the first point whose least distance is the greatest, and the first whose greatest distance is the least
 abbrev pub farthest_point : FormShape → List Row → List ℕ → DirBox → V3 → ℕ
-farthest_point shape rows judged b a = get_or judged (place_of (greatest (near_ends shape b a rows judged)) (near_ends shape b a rows judged)) 0
+farthest_point shape rows judged b a =
+    get_or judged (place_of (greatest (near_ends shape b a rows judged)) (near_ends shape b a rows judged)) 0
 
 abbrev pub nearest_point : FormShape → List Row → List ℕ → DirBox → V3 → ℕ
-nearest_point shape rows judged b a = get_or judged (place_of (least (far_ends shape b a rows judged)) (far_ends shape b a rows judged)) 0
+nearest_point shape rows judged b a =
+    get_or judged (place_of (least (far_ends shape b a rows judged)) (far_ends shape b a rows judged)) 0
 
 -- where these two don't part the box, no two do
 abbrev pub ring_evidence : FormShape → List Row → List ℕ → ℕ → DirBox → V3 → Option Evidence
@@ -138,4 +152,5 @@ ring_evidence shape rows judged t b a =
 -- the greatest distance less the least is at most the tolerance, at each axis of the box
 abbrev pub ring_holds : FormShape → List Row → List ℕ → ℕ → DirBox → V3 → Bool
 ring_holds shape rows judged t b a =
-    is_le (cmp_root_of (greatest (far_ends shape b a rows judged) -ℤ least (near_ends shape b a rows judged)) (pos t) (length2_of shape b).lo)
+    is_le (cmp_root_of (greatest (far_ends shape b a rows judged) -ℤ least (near_ends shape b a rows judged)) (pos t)
+    (length2_of shape b).lo)

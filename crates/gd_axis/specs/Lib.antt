@@ -4,4 +4,5 @@ pub mod AxisLaws
 pub mod AxisTask
 pub mod AxisTests
 pub mod Laws
+pub mod Sizes
 pub mod Zones

@@ -1,8 +1,9 @@
 // Which form about an axis is asked of some points, and the task of it.
 ghost use Rattle.std.specs.Prelude.{◌≡◌, ◌<◌, ◌≤◌, ◌^◌, ◌-◌, get_or};
+ghost use Rattle.gd_axis.specs.Sizes.{DIRECTION_SIZE, POINT_SIZE};
 ghost use Rattle.gd_base.specs.Limits.{TOLERANCE};
 ghost use Rattle.gd_dir.specs.declared.shape.FormShape.TheVariants.{Flat, Line};
-ghost use Rattle.gd_axis.specs.AxisBoxes.{IsLeastPower};
+ghost use Rattle.gd_axis.specs.AxisBoxes.{IsLeastPower, least_power};
 ghost use Rattle.gd_flat.specs.FlatTests.{point_at};
 ghost use Rattle.gd_vec.specs.Vector.{IsWithin};
 
@@ -12,8 +13,8 @@ use gd_dir::FormShape;
 use gd_vec::V3;
 
 /// A form about an axis: a line, a circle or a cylinder. `direction` is that of a circle's section, and no other shape
-/// reads it. `point` is the own point of a circle or a cylinder, in units, and their axes lie within 2^`shift` units of it
-/// along each axis of coordinates; a line reads neither. The tolerance is in units.
+/// reads it. `point` is the own point of a circle or a cylinder, in units, and their axes lie within 2^`shift` units of
+/// it along each axis of coordinates; a line reads neither. The tolerance is in units.
 #[derive(Clone, Copy, Debug)]
 pub struct AxisDef {
     pub shape: FormShape,
@@ -46,12 +47,23 @@ fn bits_above(tolerance: u32) -> u32
     24
 }
 
-/// The task of a form about an axis over the points that are judged. A line's own point is the first of them, and its axis
-/// is looked for within 2^b units of that, where b is the least with 2^b at least the tolerance.
+// The least number of bits with 2^bits at least a tolerance, as a function of it.
+#[tactic(auto, using(crate::proofs::Powers::power_is))]
+fn shift_above(tolerance: u32) -> u32
+    requires { tolerance ≤ TOLERANCE }
+    ensures least { IsLeastPower tolerance result }
+    ensures power { result ≡ least_power tolerance }
+    ensures few { result ≤ 24 }
+{
+    bits_above(tolerance)
+}
+
+/// The task of a form about an axis over the points that are judged. A line's own point is the first of them, and its
+/// axis is looked for within 2^b units of that, where b is the least with 2^b at least the tolerance.
 pub fn axis_task<'a>(judged: Judged<'a>, def: &AxisDef) -> AxisTask<'a>
     requires axis { def.now.shape ≡ Flat → ⊥ }
-    requires direction { IsWithin (2 ^ 10) def.now.direction }
-    requires point { IsWithin (2 ^ 26) def.now.point }
+    requires direction { IsWithin DIRECTION_SIZE def.now.direction }
+    requires point { IsWithin POINT_SIZE def.now.point }
     requires shift { def.now.shift ≤ 28 }
     requires tolerance { def.now.tolerance ≤ TOLERANCE }
     ensures shape { result.shape ≡ def.now.shape }
@@ -62,6 +74,7 @@ pub fn axis_task<'a>(judged: Judged<'a>, def: &AxisDef) -> AxisTask<'a>
     ensures point { (def.now.shape ≡ Line → ⊥) → result.own ≡ def.now.point }
     ensures shift { (def.now.shape ≡ Line → ⊥) → result.shift ≡ def.now.shift }
     ensures reach { def.now.shape ≡ Line → IsLeastPower def.now.tolerance result.shift }
+    ensures power { def.now.shape ≡ Line → result.shift ≡ least_power def.now.tolerance }
 {
     match def.shape {
         FormShape::Line => line_task(judged, def),
@@ -74,7 +87,7 @@ pub fn axis_task<'a>(judged: Judged<'a>, def: &AxisDef) -> AxisTask<'a>
 // The task of a line.
 fn line_task<'a>(judged: Judged<'a>, def: &AxisDef) -> AxisTask<'a>
     requires line { def.now.shape ≡ Line }
-    requires direction { IsWithin (2 ^ 10) def.now.direction }
+    requires direction { IsWithin DIRECTION_SIZE def.now.direction }
     requires tolerance { def.now.tolerance ≤ TOLERANCE }
     ensures shape { result.shape ≡ def.now.shape }
     ensures direction { result.direction ≡ def.now.direction }
@@ -82,12 +95,13 @@ fn line_task<'a>(judged: Judged<'a>, def: &AxisDef) -> AxisTask<'a>
     ensures rows { result.judged.points.table.now.rows ≡ judged.entry.points.table.now.rows }
     ensures numbers { result.judged.numbers.now ≡ judged.entry.numbers.now }
     ensures reach { IsLeastPower def.now.tolerance result.shift }
+    ensures power { result.shift ≡ least_power def.now.tolerance }
 {
     AxisTask {
         shape: def.shape,
         direction: def.direction,
         own: point_of(&judged.points, number_at(&judged, 0)),
-        shift: bits_above(def.tolerance),
+        shift: shift_above(def.tolerance),
         tolerance: def.tolerance,
         judged,
     }
@@ -97,8 +111,8 @@ fn line_task<'a>(judged: Judged<'a>, def: &AxisDef) -> AxisTask<'a>
 fn about_point<'a>(judged: Judged<'a>, def: &AxisDef) -> AxisTask<'a>
     requires axis { def.now.shape ≡ Flat → ⊥ }
     requires round { def.now.shape ≡ Line → ⊥ }
-    requires direction { IsWithin (2 ^ 10) def.now.direction }
-    requires point { IsWithin (2 ^ 26) def.now.point }
+    requires direction { IsWithin DIRECTION_SIZE def.now.direction }
+    requires point { IsWithin POINT_SIZE def.now.point }
     requires shift { def.now.shift ≤ 28 }
     requires tolerance { def.now.tolerance ≤ TOLERANCE }
     ensures shape { result.shape ≡ def.now.shape }

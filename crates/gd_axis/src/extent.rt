@@ -1,18 +1,15 @@
 // The extremes of the squared distances of points from the axes of a box. They don't depend on the tolerance.
-ghost use Rattle.std.specs.Prelude.{◌≡◌, ◌<◌, ◌≤◌, ◌^◌, ◌*ℤ◌, ◌≤ℤ◌, pos, get_or, int_le, length, take, unsigned_abs};
+ghost use Rattle.std.specs.Prelude.{◌≡◌, ◌<◌, ◌≤◌, ◌*ℤ◌, ◌≤ℤ◌, pos, get_or, int_le, length, take, unsigned_abs};
 ghost use Rattle.std.specs.Int.{int_max, int_min};
 ghost use Rattle.gd_axis.specs.AxisBoxes.{IsDistance, IsDistance2};
 ghost use Rattle.gd_axis.specs.AxisTests.{far_ends, lower_ends, near_ends, upper_ends};
 ghost use Rattle.gd_flat.specs.FlatTests.{greatest, least, place_of};
-ghost use Rattle.gd_interval.specs.Formulas.{IsRootAbove, IsRootBelow};
 ghost use Rattle.gd_zone.specs.Tests.{ceil_root, floor_root};
 
 use crate::axis::value;
 use crate::axis_box::AxisBox;
 use crate::judged::{Judged, number_at, point_of};
-use crate::wide::{greater, lesser, times};
-use gd_int::{isqrt_ceil, isqrt_floor};
-use gd_interval::Iv;
+use gd_interval::{Iv, greatest, least, root_above, root_below, times};
 
 /// The greatest and the least of the lower ends of values, and of their upper ends, in squares of fine units.
 #[derive(Clone, Copy)]
@@ -71,10 +68,10 @@ fn with(so_far: Extent, v: Iv) -> Extent
     ensures least_hi { result.least_hi ≡ int_min so_far.least_hi v.hi }
 {
     Extent {
-        most_lo: greater(so_far.most_lo, v.lo),
-        least_lo: lesser(so_far.least_lo, v.lo),
-        most_hi: greater(so_far.most_hi, v.hi),
-        least_hi: lesser(so_far.least_hi, v.hi),
+        most_lo: greatest(so_far.most_lo, v.lo),
+        least_lo: least(so_far.least_lo, v.lo),
+        most_hi: greatest(so_far.most_hi, v.hi),
+        least_hi: least(so_far.least_hi, v.hi),
     }
 }
 
@@ -94,25 +91,6 @@ pub fn extent_of(over: &AxisBox<'_>, judged: &Judged<'_>) -> Extent
         extent = with(extent, value_at(over, judged, at));
     }
     extent
-}
-
-// The root, rounded down.
-#[inline(always)]
-fn root_below(a: i128) -> i128
-    requires { pos 0 ≤ℤ a }
-    ensures { IsRootBelow result a }
-{
-    isqrt_floor(a as u128) as i128
-}
-
-// The root, rounded up.
-#[inline(always)]
-fn root_above(a: i128) -> i128
-    requires sign { pos 0 ≤ℤ a }
-    requires size { unsigned_abs a < 2 ^ 126 }
-    ensures { IsRootAbove result a }
-{
-    isqrt_ceil(a as u128) as i128
 }
 
 // The root, rounded down, of a squared distance.

@@ -1,8 +1,9 @@
 // The points that a form about an axis judges.
-ghost use Rattle.std.specs.Prelude.{◌≡◌, ◌<◌, ◌≤◌, ◌^◌, ◌-◌, get_or, length, nat_eq, true, false, IfSome, None, []};
+ghost use Rattle.std.specs.Prelude.{◌≡◌, ◌<◌, ◌≤◌, ◌-◌, get_or, length, nat_eq, true, false, IfSome, None, []};
 ghost use Rattle.std.specs.List.{All, list_any};
 ghost use Rattle.std.specs.List.Sorted.{IsNonDecreasingBy};
 ghost use Rattle.gd_axis.specs.AxisTests.{is_judged};
+ghost use Rattle.gd_axis.specs.Sizes.{POINT_SIZE};
 ghost use Rattle.gd_flat.specs.FlatTests.{point_at};
 ghost use Rattle.gd_flat.specs.Judged.{numbers_of};
 ghost use Rattle.gd_vec.specs.Vector.{IsWithin};
@@ -22,7 +23,8 @@ pub struct Judged<'a> {
 }
 
 impl<'a> Judged<'a> {
-    /// The points of a feature, or of a group of it, found without a look at the whole table. `None` where there is none.
+    /// The points of a feature, or of a group of it, found without a look at the whole table. `None` where there is
+    /// none.
     pub fn of(index: &'a PointIndex<'a>, feature: u32, group: Option<u32>) -> Option<Judged<'a>>
         ensures numbers { IfSome result (λ judged. judged.numbers.now ≡ numbers_of feature group
             index.now.table.now.rows) }
@@ -61,7 +63,7 @@ fn numbers_of<'a>(index: &'a PointIndex<'a>, feature: u32, group: Option<u32>) -
 pub fn point_of(points: &Points<'_>, at: usize) -> V3
     requires { at < length points.now.table.now.rows }
     ensures value { result ≡ point_at points.now.table.now.rows at }
-    ensures size { IsWithin (2 ^ 26) result }
+    ensures size { IsWithin POINT_SIZE result }
 {
     let place = place_at(points, at);
     V3 {

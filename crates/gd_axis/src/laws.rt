@@ -1,9 +1,10 @@
-ghost use Rattle.gd_axis.specs.AxisLaws.{LineEvidenceRefutes, LineHoldsIsSound, LineNoneRefutes, LineRefutedIsEmpty, RingEvidenceRefutes, RingHoldsIsSound, RingNoneRefutes, RingRefutedIsEmpty};
+ghost use Rattle.gd_axis.specs.AxisLaws.{LineEvidenceRefutes, LineHoldsIsSound, LineNoneRefutes, LineRefutedIsEmpty};
+ghost use Rattle.gd_axis.specs.AxisLaws.{RingEvidenceRefutes, RingHoldsIsSound, RingNoneRefutes, RingRefutedIsEmpty};
 ghost use Rattle.gd_axis.specs.Zones.{CylinderIsNear, RingHasRadius};
 
-/// What the inequalities of a form about an axis mean: a cylinder holds a point exactly where a point of the axis is near
-/// it, and a radius exists exactly where the distances differ by at most the tolerance. It does nothing when it runs; a
-/// proof cites its clauses.
+/// What the inequalities of a form about an axis mean: a cylinder holds a point exactly where a point of the axis is
+/// near it, and a radius exists exactly where the distances differ by at most the tolerance. It does nothing when it
+/// runs; a proof cites its clauses.
 #[inline(always)]
 pub fn zones_are_meant()
     ensures cylinder { CylinderIsNear }

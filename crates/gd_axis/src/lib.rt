@@ -13,9 +13,6 @@ mod places;
 mod points;
 mod ring;
 mod task;
-#[cfg(test)]
-mod tests;
-mod wide;
 
 pub use axis_box::AxisBox;
 pub use axis_def::{AxisDef, axis_task};

@@ -1,16 +1,19 @@
 // Straightness of a derived median line over a box of axes (ASME Y14.5M-1994, 6.4.1).
-ghost use Rattle.std.specs.Prelude.{◌≡◌, ◌<◌, ◌≤◌, ◌*◌, ◌^◌, ◌≤ℤ◌, ◌*ℤ◌, false, get_or, int_le, int_lt, length, pos, take, true, unsigned_abs};
+ghost use Rattle.std.specs.Prelude.{◌≡◌, ◌<◌, ◌≤◌, ◌*◌, ◌^◌, ◌≤ℤ◌, ◌*ℤ◌, false, get_or, int_le, int_lt, length, pos};
+ghost use Rattle.std.specs.Prelude.{take, true, unsigned_abs};
 ghost use Rattle.std.specs.List.{All};
+ghost use Rattle.gd_axis.specs.Sizes.{LENGTH2_SIZE};
 ghost use Rattle.gd_base.specs.Limits.{TOLERANCE};
 ghost use Rattle.gd_axis.specs.AxisBoxes.{IsDistance2};
-ghost use Rattle.gd_axis.specs.AxisTests.{length2_of, line_evidence, line_holds, line_refuted, point_evidence, square_times, value_at};
+ghost use Rattle.gd_axis.specs.AxisTests.{length2_of, line_evidence, line_holds, line_refuted, point_evidence};
+ghost use Rattle.gd_axis.specs.AxisTests.{square_times, value_at};
 
 use crate::axis::{length2, value};
 use crate::axis_box::AxisBox;
 use crate::extent::value_at;
 use crate::judged::{Judged, is_judged, number_at, point_of};
-use crate::wide::times;
 use gd_cells::Evidence;
+use gd_interval::times;
 
 /// The number of the one condition of a form.
 const FORM: u32 = 1;
@@ -18,7 +21,7 @@ const FORM: u32 = 1;
 // The square of the tolerance times a squared length.
 fn square_times(tolerance: u32, length2: i128) -> i128
     requires tolerance { tolerance ≤ TOLERANCE }
-    requires length2 { unsigned_abs length2 ≤ 2 ^ 54 }
+    requires length2 { unsigned_abs length2 ≤ LENGTH2_SIZE }
     ensures value { result ≡ square_times tolerance length2 }
     ensures size { unsigned_abs result ≤ 2 ^ 102 }
 {

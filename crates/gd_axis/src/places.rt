@@ -1,7 +1,9 @@
 // The boxes of witnesses of a form about an axis.
-ghost use Rattle.std.specs.Prelude.{◌≡◌, ◌≤◌, ◌^◌, true, unsigned_abs};
+ghost use Rattle.std.specs.Prelude.{◌≡◌, ◌≤◌, true, unsigned_abs};
 ghost use Rattle.gd_axis.specs.AxisBoxes.{IsFormBox};
 ghost use Rattle.gd_axis.specs.AxisTask.{number_of, place_box};
+ghost use Rattle.gd_axis.specs.Sizes.{DIRECTION_SIZE};
+ghost use Rattle.gd_base.specs.Scales.{ONE};
 ghost use Rattle.gd_dir.specs.FormBoxes.{offset_at};
 ghost use Rattle.gd_dir.specs.Forms.{coordinates_of, roots_of};
 ghost use Rattle.gd_dir.specs.declared.shape.FormShape.TheVariants as form;
@@ -9,32 +11,8 @@ ghost use Rattle.gd_grid.specs.Cells.{is_in_range};
 ghost use Rattle.gd_vec.specs.Vector.{IsWithin};
 
 use gd_cells::Witness;
-use gd_dir::{DirBox, FormShape, direction, leading_axis};
+use gd_dir::{DirBox, FormShape, direction, leading_axis, offset_at};
 use gd_vec::V3;
-
-// The offset of two entries off an axis.
-#[inline]
-fn offset_at(axis: u32, first: i64, second: i64) -> V3
-    ensures { result ≡ offset_at axis first second }
-{
-    match axis {
-        1 => V3 {
-            x: 0,
-            y: first,
-            z: second,
-        },
-        2 => V3 {
-            x: first,
-            y: 0,
-            z: second,
-        },
-        _ => V3 {
-            x: first,
-            y: second,
-            z: 0,
-        },
-    }
-}
 
 // The box of a direction and an offset alone.
 #[inline]
@@ -62,8 +40,8 @@ fn circle_place(d: &V3, witness: &Witness) -> DirBox
 fn line_place(d: &V3, witness: &Witness) -> DirBox
     requires first_root { 1 ≤ witness.now.root }
     requires last_root { witness.now.root ≤ 3 }
-    requires first { unsigned_abs (number_of witness.now 0) ≤ 2 ^ 30 }
-    requires second { unsigned_abs (number_of witness.now 1) ≤ 2 ^ 30 }
+    requires first { unsigned_abs (number_of witness.now 0) ≤ ONE }
+    requires second { unsigned_abs (number_of witness.now 1) ≤ ONE }
     ensures { result ≡ place_box form.Line d.now witness.now }
 {
     let n = direction(witness.root, witness.at[0], witness.at[1]);
@@ -92,7 +70,7 @@ fn place_of(shape: FormShape, d: &V3, shift: u32, witness: &Witness) -> DirBox
 pub fn form_place(shape: FormShape, d: &V3, shift: u32, witness: &Witness) -> DirBox
     requires axis { shape ≡ form.Flat → ⊥ }
     requires shift { shift ≤ 28 }
-    requires short { IsWithin (2 ^ 10) d.now }
+    requires short { IsWithin DIRECTION_SIZE d.now }
     requires ranges { is_in_range (roots_of shape) (coordinates_of shape shift) witness.now ≡ true }
     ensures ends { result ≡ place_box shape d.now witness.now }
     ensures fits { IsFormBox shape result }

@@ -1,9 +1,11 @@
 // Circularity and cylindricity over a box of axes (ASME Y14.5M-1994, 6.4.3 and 6.4.4).
-ghost use Rattle.std.specs.Prelude.{◌≡◌, ◌<◌, ◌≤◌, ◌*◌, ◌^◌, ◌-ℤ◌, ◌≤ℤ◌, pos, unsigned_abs, length};
+ghost use Rattle.std.specs.Prelude.{◌≡◌, ◌<◌, ◌≤◌, ◌*◌, ◌-ℤ◌, ◌≤ℤ◌, pos, unsigned_abs, length};
 ghost use Rattle.std.specs.Ordering.{is_gt, is_le};
+ghost use Rattle.gd_axis.specs.Sizes.{LENGTH2_SIZE};
 ghost use Rattle.gd_base.specs.Limits.{TOLERANCE};
 ghost use Rattle.gd_axis.specs.AxisBoxes.{IsDistance};
-ghost use Rattle.gd_axis.specs.AxisTests.{far_ends, farthest_point, near_ends, nearest_point, ring_evidence, ring_holds, ring_parts, ring_refuted};
+ghost use Rattle.gd_axis.specs.AxisTests.{far_ends, farthest_point, near_ends, nearest_point, ring_evidence};
+ghost use Rattle.gd_axis.specs.AxisTests.{ring_holds, ring_parts, ring_refuted};
 ghost use Rattle.gd_flat.specs.FlatTests.{evidence_of, greatest, least};
 ghost use Rattle.gd_int.specs.Roots.{cmp_root_of};
 
@@ -11,9 +13,9 @@ use crate::axis::{length2, value};
 use crate::axis_box::AxisBox;
 use crate::extent::{extent_of, first_far, first_near, root_down, root_up};
 use crate::judged::{Judged, is_judged, number_at, point_of};
-use crate::wide::minus;
 use gd_cells::Evidence;
 use gd_int::cmp_root;
+use gd_interval::minus;
 use std::cmp::Ordering;
 
 /// The number of the one condition of a form.
@@ -25,7 +27,7 @@ fn compared(from: i128, to: i128, tolerance: u32, length2: i128) -> Ordering
     requires to { IsDistance to }
     requires tolerance { tolerance ≤ TOLERANCE }
     requires sign { pos 0 ≤ℤ length2 }
-    requires length2 { unsigned_abs length2 ≤ 2 ^ 54 }
+    requires length2 { unsigned_abs length2 ≤ LENGTH2_SIZE }
     ensures { result ≡ cmp_root_of (from -ℤ to) (pos tolerance) length2 }
 {
     cmp_root(minus(from, to), i128::from(tolerance), length2)

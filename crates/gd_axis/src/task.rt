@@ -1,5 +1,6 @@
 // Straightness, circularity and cylindricity as a task over the cells of directions and offsets.
 ghost use Rattle.std.specs.Prelude.{◌≡◌, ◌<◌, ◌≤◌, ◌%◌, ◌^◌, IfSome, get_or};
+ghost use Rattle.gd_axis.specs.Sizes.{DIRECTION_SIZE, POINT_SIZE};
 ghost use Rattle.gd_base.specs.Limits.{TOLERANCE};
 ghost use Rattle.gd_dir.specs.FormPlaces.{dims_of};
 ghost use Rattle.gd_dir.specs.declared.shape.FormShape.TheVariants.{Flat, Line};
@@ -18,10 +19,10 @@ use gd_dir::{
 };
 use gd_vec::V3;
 
-/// A form about an axis as a task: a line, a circle or a cylinder. `direction` is that of a circle's section. `own` is the
-/// form's own point, in units, from which the offsets of axes are taken: for a line the first of its points. Offsets go to
-/// 2^`shift` units, and the tolerance is in units. A witness is a root, two ratios in 2^-30 and two offsets in fine units
-/// of 2^-16; a circle has two offsets alone.
+/// A form about an axis as a task: a line, a circle or a cylinder. `direction` is that of a circle's section. `own` is
+/// the form's own point, in units, from which the offsets of axes are taken: for a line the first of its points.
+/// Offsets go to 2^`shift` units, and the tolerance is in units. A witness is a root, two ratios in 2^-30 and two
+/// offsets in fine units of 2^-16; a circle has two offsets alone.
 #[derive(Clone, Copy)]
 pub struct AxisTask<'a> {
     pub shape: FormShape,
@@ -32,8 +33,8 @@ pub struct AxisTask<'a> {
     pub judged: Judged<'a>,
     ghost axis: { shape ≡ Flat → ⊥ },
     ghost tolerable: { tolerance ≤ TOLERANCE },
-    ghost short: { IsWithin (2 ^ 10) direction },
-    ghost own_near: { IsWithin (2 ^ 26) own },
+    ghost short: { IsWithin DIRECTION_SIZE direction },
+    ghost own_near: { IsWithin POINT_SIZE own },
     ghost shift_near: { shift ≤ 28 },
     ghost line_shift: { shape ≡ Line → tolerance ≤ 2 ^ shift },
     ghost line_own: { shape ≡ Line → own ≡ point_at judged.points.table.now.rows (get_or judged.numbers.now 0 0) },

@@ -74,6 +74,13 @@ impl Name {
     {
         self.0.as_bytes()
     }
+
+    /// The name as a text.
+    pub fn text(&self) -> &str
+        ensures { result.now ≡ self.now }
+    {
+        self.0.as_str()
+    }
 }
 
 impl PartialEq for Name {

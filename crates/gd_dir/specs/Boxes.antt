@@ -1,6 +1,7 @@
 -- Boxes of directions, in 2^-30, and of offsets, in fine units of 2^-16: the corners with the least entries and those
 -- with the greatest.
 use Rattle.std.specs.Prelude.{ℕ, ℤ, pos, ◌^◌, ◌≡◌, ◌≤ℤ◌, ◌+ℤ◌, ◌*ℤ◌, ◌==◌, if◌then◌else◌}
+use Rattle.gd_base.specs.Scales.{FINE, ONE}
 use Rattle.gd_cells.specs.declared.cell.Cell.{Cell}
 use Rattle.gd_dir.specs.Directions.{LeadsAlong, LiesIn, RatioWithin, entry, first_other, second_other}
 use Rattle.gd_dir.specs.Faces.{high_end, low_end, width_of}
@@ -11,8 +12,12 @@ use Rattle.gd_vec.specs.declared.vector.V3.{V3}
 -- the direction of two ratios on a face: 1 along the face's axis, and the ratios along the others in ascending order
 abbrev pub direction_of : ℕ → ℤ → ℤ → V3
 direction_of root a b =
-    if root == 1 then record { x = pos (2 ^ 30); y = a; z = b }
-    else (if root == 2 then record { x = a; y = pos (2 ^ 30); z = b } else record { x = a; y = b; z = pos (2 ^ 30) })
+    if root == 1 then record { x = pos ONE; y = a; z = b }
+    else (if root == 2 then record { x = a; y = pos ONE; z = b } else record { x = a; y = b; z = pos ONE })
+
+-- how large an entry of an offset is at most, in fine units: 2^28 units
+abbrev pub OFFSET_SIZE : ℕ
+OFFSET_SIZE = 2 ^ 44
 
 -- no offset
 abbrev pub ORIGIN : V3
@@ -34,14 +39,14 @@ pub record IsBelow (a b : V3) : Type 0 where
   pub y : a.y ≤ℤ b.y
   pub z : a.z ≤ℤ b.z
 
--- the corners are in order, no entry of a direction is larger than 1, and no offset than 2^28 units
+-- the corners are in order, no entry of a direction is larger than 1, and no offset is too large
 pub record IsBox (b : DirBox) : Type 0 where
   pub ordered : IsBelow b.lo b.hi
-  pub lo : IsWithin (2 ^ 30) b.lo
-  pub hi : IsWithin (2 ^ 30) b.hi
+  pub lo : IsWithin ONE b.lo
+  pub hi : IsWithin ONE b.hi
   pub offset_ordered : IsBelow b.offset_lo b.offset_hi
-  pub offset_lo : IsWithin (2 ^ 44) b.offset_lo
-  pub offset_hi : IsWithin (2 ^ 44) b.offset_hi
+  pub offset_lo : IsWithin OFFSET_SIZE b.offset_lo
+  pub offset_hi : IsWithin OFFSET_SIZE b.offset_hi
 
 -- a box holds a direction with a leading entry: the ratio of each entry to that one lies between the corners
 pub record HoldsDirection (b : DirBox) (lead : ℤ) (n : V3) : Type 0 where
@@ -52,7 +57,7 @@ pub record HoldsDirection (b : DirBox) (lead : ℤ) (n : V3) : Type 0 where
 -- o over s units, in fine units, is no less than lo and no greater than hi, where s is positive: stated by products, so
 -- that nothing is rounded
 abbrev pub OffsetWithin : ℤ → ℤ → ℤ → ℤ → Type 0
-OffsetWithin lo hi s o = ((lo *ℤ s) ≤ℤ (pos (2 ^ 16) *ℤ o)) × ((pos (2 ^ 16) *ℤ o) ≤ℤ (hi *ℤ s))
+OffsetWithin lo hi s o = ((lo *ℤ s) ≤ℤ (pos FINE *ℤ o)) × ((pos FINE *ℤ o) ≤ℤ (hi *ℤ s))
 
 -- a box holds an offset, the vector o over the whole number s
 pub record HoldsOffset (b : DirBox) (s : ℤ) (o : V3) : Type 0 where

@@ -1,5 +1,6 @@
 -- Directions that lead along an axis, and the cells in which they lie.
-use Rattle.std.specs.Prelude.{ℕ, ℤ, pos, ◌^◌, ◌≤◌, ◌≡◌, ◌*ℤ◌, ◌≤ℤ◌, ◌<ℤ◌, ◌==◌, unsigned_abs, if◌then◌else◌}
+use Rattle.std.specs.Prelude.{ℕ, ℤ, pos, ◌≤◌, ◌≡◌, ◌*ℤ◌, ◌≤ℤ◌, ◌<ℤ◌, ◌==◌, unsigned_abs, if◌then◌else◌}
+use Rattle.gd_base.specs.Scales.{ONE}
 use Rattle.gd_cells.specs.declared.cell.Cell.{Cell}
 use Rattle.gd_dir.specs.Faces.{high_end, low_end}
 use Rattle.gd_vec.specs.declared.vector.V3.{V3}
@@ -25,7 +26,7 @@ second_other axis = if axis == 3 then 2 else 3
 -- the ratio x / lead, in 2^-30, is no less than lo and no greater than hi, where lead is positive: stated by products,
 -- so that nothing is rounded
 abbrev pub RatioWithin : ℤ → ℤ → ℤ → ℤ → Type 0
-RatioWithin lo hi lead x = ((lo *ℤ lead) ≤ℤ (pos (2 ^ 30) *ℤ x)) × ((pos (2 ^ 30) *ℤ x) ≤ℤ (hi *ℤ lead))
+RatioWithin lo hi lead x = ((lo *ℤ lead) ≤ℤ (pos ONE *ℤ x)) × ((pos ONE *ℤ x) ≤ℤ (hi *ℤ lead))
 
 -- a direction that leads along an axis lies in a cell: the axis is the cell's root, and the ratios of the other entries
 -- to the leading one lie in the cell's boxes

@@ -1,6 +1,7 @@
 -- The cells of three faces of a cube: on each face a grid of two ratios from -1 to 1, in 2^-30, that are halved in
 -- turn.
 use Rattle.std.specs.Prelude.{ℕ, ◌*◌, ◌/◌, ◌%◌, ◌^◌, ◌≤◌, ◌<◌, ℤ, pos, neg_ℤ, ◌+ℤ◌, get_or}
+use Rattle.gd_base.specs.Scales.{ONE}
 use Rattle.gd_cells.specs.Grid.{halvings, Grid}
 use Rattle.gd_cells.specs.declared.cell.Cell.{Cell}
 
@@ -18,7 +19,7 @@ width_of ratio level = 2 ^ 31 / 2 ^ halvings faces ratio level
 
 -- the ends of a cell's box of a ratio, and its middle
 abbrev pub low_end : ℕ → Cell → ℤ
-low_end ratio c = neg_ℤ (pos (2 ^ 30)) +ℤ pos (index_at ratio c * width_of ratio c.level)
+low_end ratio c = neg_ℤ (pos ONE) +ℤ pos (index_at ratio c * width_of ratio c.level)
 
 abbrev pub high_end : ℕ → Cell → ℤ
 high_end ratio c = low_end ratio c +ℤ pos (width_of ratio c.level)

@@ -1,6 +1,7 @@
 -- The boxes of directions and offsets of a form's cells, and what the cells cover.
 use Rattle.std.specs.Prelude.{ℕ, ℤ, pos, suc, ◌+◌, ◌*◌, ◌^◌, ◌≤◌, ◌<◌, ◌≡◌, ◌==◌, ◌⊎◌, ◌<ℤ◌, if◌then◌else◌}
 use Rattle.gd_base.specs.Limits.{LARGE_SHIFT}
+use Rattle.gd_base.specs.Scales.{ONE}
 use Rattle.gd_cells.specs.Grid.{cell_of}
 use Rattle.gd_cells.specs.declared.cell.Cell.{Cell}
 use Rattle.gd_dir.specs.Boxes.{HoldsDirection, HoldsOffset, ORIGIN, box_of, direction_of}
@@ -73,7 +74,7 @@ form_box Cylinder d shift c = line_box Cylinder shift c
 abbrev pub lead_of : FormShape → ℕ → V3 → ℤ
 lead_of Flat axis n = entry axis n
 lead_of Line axis n = entry axis n
-lead_of Circle axis n = pos (2 ^ 30)
+lead_of Circle axis n = pos ONE
 lead_of Cylinder axis n = entry axis n
 
 -- a flatness has no offset

@@ -1,5 +1,6 @@
 -- The witnesses of a form, and the candidates that they stand for.
-use Rattle.std.specs.Prelude.{ℕ, pos, ◌^◌, ◌≡◌, true, List, [], ◌∷◌}
+use Rattle.std.specs.Prelude.{ℕ, pos, ◌≡◌, true, List, [], ◌∷◌}
+use Rattle.gd_base.specs.Scales.{FINE}
 use Rattle.gd_cells.specs.declared.cell.Witness.{Witness}
 use Rattle.gd_dir.specs.Boxes.{ORIGIN, direction_of}
 use Rattle.gd_dir.specs.FormBoxes.{offset_at}
@@ -48,5 +49,5 @@ offset_of Cylinder d w = offset_at w.root (number_at 2 w) (number_at 3 w)
 abbrev pub WitnessesAreCandidates : Type 0
 WitnessesAreCandidates = (shape : FormShape) (d : V3) (shift : ℕ) (w : Witness)
     → is_in_range (roots_of shape) (coordinates_of shape shift) w ≡ true
-    → IsCandidate shape d (axis_at shape d w) (direction_at shape d w) (pos (2 ^ 16)) (offset_of shape d w)
-    × IsNear shift (pos (2 ^ 16)) (offset_of shape d w)
+    → IsCandidate shape d (axis_at shape d w) (direction_at shape d w) (pos FINE) (offset_of shape d w)
+    × IsNear shift (pos FINE) (offset_of shape d w)

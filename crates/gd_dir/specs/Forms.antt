@@ -3,6 +3,7 @@
 -- 0 along the axis.
 use Rattle.std.specs.Prelude.{ℕ, ℤ, pos, ◌+◌, ◌^◌, ◌≤◌, ◌≡◌, ◌&&◌, ◌*ℤ◌, ◌+ℤ◌, ◌-ℤ◌, ◌≤ℤ◌, ◌<ℤ◌, nat_le, unsigned_abs}
 use Rattle.std.specs.Prelude.{List, [], ◌∷◌, if◌then◌else◌}
+use Rattle.gd_base.specs.Scales.{FINE, ONE}
 use Rattle.gd_cells.specs.Grid.{Grid}
 use Rattle.gd_cells.specs.declared.cell.Cell.{Cell}
 use Rattle.gd_dir.specs.Directions.{LeadsAlong, LiesIn, entry, first_other, second_other}
@@ -43,10 +44,10 @@ cells_of shape shift = grid_of (roots_of shape) (coordinates_of shape shift)
 -- ---- candidates
 -- an entry of a direction over the leading one, in 2^-30, and of an offset o / s, in fine units
 abbrev pub ratio_to : ℤ → ℤ → Fraction
-ratio_to lead x = record { under = lead; value = pos (2 ^ 30) *ℤ x }
+ratio_to lead x = record { under = lead; value = pos ONE *ℤ x }
 
 abbrev pub fine : ℤ → ℤ → Fraction
-fine s x = record { under = s; value = pos (2 ^ 16) *ℤ x }
+fine s x = record { under = s; value = pos FINE *ℤ x }
 
 -- the numbers of a line or a cylinder: both ratios of its direction, then both offsets, each at the axes that don't
 -- lead, in ascending order

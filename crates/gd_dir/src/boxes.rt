@@ -1,12 +1,14 @@
 // The boxes of the cells of three faces.
-ghost use Rattle.std.specs.Prelude.{◌≡◌, ◌≤◌, ◌^◌, ◌∷◌, replicate, unsigned_abs, ◌-◌};
+ghost use Rattle.std.specs.Prelude.{◌≡◌, ◌≤◌, ◌∷◌, replicate, unsigned_abs, ◌-◌};
+ghost use Rattle.gd_base.specs.Scales.{ONE};
 ghost use Rattle.gd_dir.specs.Boxes.{Encloses, IsAsWideAs, IsBox, box_of, direction_of};
 ghost use Rattle.gd_dir.specs.Directions.{LeadsAlong};
 ghost use Rattle.gd_dir.specs.Faces.{IsFaceCell, middle};
 ghost use Rattle.gd_vec.specs.Vector.{IsWithin};
 
-use crate::ratio::{ONE, ratio_box, ratio_middle};
+use crate::ratio::{ratio_box, ratio_middle};
 use crate::shape::DirBox;
+use gd_base::scales;
 use gd_cells::Cell;
 use gd_vec::V3;
 
@@ -16,27 +18,27 @@ use gd_vec::V3;
 pub fn direction(root: u32, first: i64, second: i64) -> V3
     requires first_root { 1 ≤ root }
     requires last_root { root ≤ 3 }
-    requires first { unsigned_abs first ≤ 2 ^ 30 }
-    requires second { unsigned_abs second ≤ 2 ^ 30 }
+    requires first { unsigned_abs first ≤ ONE }
+    requires second { unsigned_abs second ≤ ONE }
     ensures value { result ≡ direction_of root first second }
-    ensures size { IsWithin (2 ^ 30) result }
+    ensures size { IsWithin ONE result }
     ensures leads { LeadsAlong root result }
 {
     match root {
         1 => V3 {
-            x: ONE,
+            x: scales::ONE,
             y: first,
             z: second,
         },
         2 => V3 {
             x: first,
-            y: ONE,
+            y: scales::ONE,
             z: second,
         },
         _ => V3 {
             x: first,
             y: second,
-            z: ONE,
+            z: scales::ONE,
         },
     }
 }
@@ -76,8 +78,8 @@ pub fn centre_of(c: &Cell) -> (i64, i64)
     requires cell { IsFaceCell c.now }
     ensures first { result.0 ≡ middle 0 c.now }
     ensures second { result.1 ≡ middle 1 c.now }
-    ensures first_size { unsigned_abs result.0 ≤ 2 ^ 30 }
-    ensures second_size { unsigned_abs result.1 ≤ 2 ^ 30 }
+    ensures first_size { unsigned_abs result.0 ≤ ONE }
+    ensures second_size { unsigned_abs result.1 ≤ ONE }
 {
     (ratio_middle(0, c), ratio_middle(1, c))
 }

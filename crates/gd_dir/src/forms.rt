@@ -1,6 +1,7 @@
 // The boxes of the cells of each form.
-ghost use Rattle.std.specs.Prelude.{◌≡◌, ◌≤◌, ◌^◌, unsigned_abs};
+ghost use Rattle.std.specs.Prelude.{◌≡◌, ◌≤◌, unsigned_abs};
 ghost use Rattle.gd_base.specs.Limits.{LARGE_SHIFT};
+ghost use Rattle.gd_base.specs.Scales.{ONE};
 ghost use Rattle.gd_cells.specs.Grid.{IsCell};
 ghost use Rattle.gd_dir.specs.Boxes.{IsBox};
 ghost use Rattle.gd_dir.specs.FormBoxes.{EnclosesForm, circle_box, form_box, high_ratio, line_box, low_ratio};
@@ -20,7 +21,7 @@ use gd_vec::V3;
 /// from -2^shift to 2^shift units and stand at the two axes other than the leading one, in ascending order. `d` is the
 /// direction of a circle's section, and only a circle reads it.
 pub fn dir_box(shape: FormShape, d: &V3, shift: u32, c: &Cell) -> DirBox
-    requires d { IsWithin (2 ^ 30) d.now }
+    requires d { IsWithin ONE d.now }
     requires shift { shift ≤ LARGE_SHIFT }
     requires cell { IsCell (cells_of shape shift) c.now }
     ensures ends { result ≡ form_box shape d.now shift c.now }
@@ -32,7 +33,7 @@ pub fn dir_box(shape: FormShape, d: &V3, shift: u32, c: &Cell) -> DirBox
 
 // The box by the form.
 fn box_of(shape: FormShape, d: &V3, shift: u32, c: &Cell) -> DirBox
-    requires d { IsWithin (2 ^ 30) d.now }
+    requires d { IsWithin ONE d.now }
     requires shift { shift ≤ LARGE_SHIFT }
     requires cell { IsCell (cells_of shape shift) c.now }
     ensures { result ≡ form_box shape d.now shift c.now }
@@ -85,8 +86,8 @@ fn ratio_box(number: u32, c: &Cell) -> Ends
     requires { HasBox ratio number 4 c.now }
     ensures lo { result.lo ≡ low_ratio number c.now }
     ensures hi { result.hi ≡ high_ratio number c.now }
-    ensures lo_size { unsigned_abs result.lo ≤ 2 ^ 30 }
-    ensures hi_size { unsigned_abs result.hi ≤ 2 ^ 30 }
+    ensures lo_size { unsigned_abs result.lo ≤ ONE }
+    ensures hi_size { unsigned_abs result.hi ≤ ONE }
 {
     coordinate_box(&about(0, 30), number, 4, c)
 }
@@ -110,10 +111,11 @@ fn circle_box(d: &V3, shift: u32, c: &Cell) -> DirBox
     }
 }
 
-// The offset of two entries off an axis.
+/// The offset of two entries, in fine units, at the axes other than a leading one, in ascending order: it is 0 along
+/// that.
 #[inline]
-fn offset_at(axis: u32, first: i64, second: i64) -> V3
-    ensures { result ≡ offset_at axis first second }
+pub fn offset_at(axis: u32, first: i64, second: i64) -> V3
+    ensures value { result ≡ offset_at axis first second }
 {
     match axis {
         1 => V3 {

@@ -1,12 +1,11 @@
 // The boxes of a cell's two ratios, in 2^-30.
-ghost use Rattle.std.specs.Prelude.{◌≡◌, ◌≤◌, ◌<◌, ◌^◌, ◌+ℤ◌, ◌≤ℤ◌, pos, unsigned_abs};
+ghost use Rattle.std.specs.Prelude.{◌≡◌, ◌≤◌, ◌<◌, ◌+ℤ◌, ◌≤ℤ◌, pos, unsigned_abs};
+ghost use Rattle.gd_base.specs.Scales.{ONE};
 ghost use Rattle.gd_cells.specs.Grid.{halvings};
 ghost use Rattle.gd_dir.specs.Faces.{IsFaceCell, high_end, faces, low_end, middle, width_of};
 
+use gd_base::scales;
 use gd_cells::Cell;
-
-/// 1 as a ratio. Ratios are in 2^-30.
-pub const ONE: i64 = 1 << 30;
 
 /// The width of a ratio's box on a whole face, from -1 to 1.
 const FACE_WIDTH: u64 = 1 << 31;
@@ -47,11 +46,11 @@ pub fn ratio_box(ratio: u32, c: &Cell) -> RatioBox
     ensures lo { result.lo ≡ low_end ratio c.now }
     ensures hi { result.hi ≡ high_end ratio c.now }
     ensures ordered { result.lo ≤ℤ result.hi }
-    ensures lo_size { unsigned_abs result.lo ≤ 2 ^ 30 }
-    ensures hi_size { unsigned_abs result.hi ≤ 2 ^ 30 }
+    ensures lo_size { unsigned_abs result.lo ≤ ONE }
+    ensures hi_size { unsigned_abs result.hi ≤ ONE }
 {
     let width = width(ratio, c.level);
-    let lo = (c.index[ratio as usize] * width) as i64 - ONE;
+    let lo = (c.index[ratio as usize] * width) as i64 - scales::ONE;
     RatioBox {
         lo,
         hi: lo + width as i64,
@@ -64,8 +63,8 @@ pub fn ratio_middle(ratio: u32, c: &Cell) -> i64
     requires ratio { ratio < 2 }
     requires cell { IsFaceCell c.now }
     ensures value { result ≡ middle ratio c.now }
-    ensures size { unsigned_abs result ≤ 2 ^ 30 }
+    ensures size { unsigned_abs result ≤ ONE }
 {
     let width = width(ratio, c.level);
-    (c.index[ratio as usize] * width + width / 2) as i64 - ONE
+    (c.index[ratio as usize] * width + width / 2) as i64 - scales::ONE
 }

@@ -10,8 +10,8 @@ use Rattle.gd_vec.specs.declared.vector.V3.{V3}
 use Rattle.gd_zone.specs.Conditions.{IsCondition, Meets}
 use Rattle.gd_zone.specs.declared.condition.Condition.{Condition}
 
--- what is asked: which placements are in range, the part's first point, the rows of the points, and the conditions of the
--- group, which are numbered from 1
+-- what is asked: which placements are in range, the part's first point, the rows of the points, and the conditions of
+-- the group, which are numbered from 1
 pub record Asked : Type 0 where
   pub ranges : Ranges
   pub base : V3
@@ -35,8 +35,8 @@ pub record IsAsked (q : Asked) : Type 0 where
   pub few : length q.conditions ≤ CONDITIONS
   pub points : 0 < length q.conditions → length q.rows ≤ POINTS
 
--- ---- a placement as a list of whole numbers: four of its rotation, its scale, and three of its translation and of each
--- offset
+-- ---- a placement as a list of whole numbers: four of its rotation, its scale, and three of its translation and of
+-- each offset
 abbrev pub with_entries : V3 → List ℤ → List ℤ
 with_entries v rest = v.x ∷ v.y ∷ v.z ∷ rest
 

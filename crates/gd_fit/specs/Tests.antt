@@ -28,7 +28,8 @@ cell_ends r c = record {
   second = offset_ends r c 2;
 }
 
--- the first evidence against the first of some conditions that is refuted over a box; they are numbered from a number on
+-- the first evidence against the first of some conditions that is refuted over a box; they are numbered from a number
+-- on
 abbrev pub first_against : PlacedEnds → V3 → List Row → ℕ → List Condition → Option Evidence
 first_against b base rows number [] = None
 first_against b base rows number (c ∷ cs) =

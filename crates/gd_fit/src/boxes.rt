@@ -10,8 +10,8 @@ use gd_quat::matrix;
 use gd_turn::{Ranges, cell_box};
 use gd_zone::Placed;
 
-/// The placements of a cell as a box: their matrices in 2^-30, which are computed once a cell, and their translations and
-/// offsets in fine units of 2^-16 unit.
+/// The placements of a cell as a box: their matrices in 2^-30, which are computed once a cell, and their translations
+/// and offsets in fine units of 2^-16 unit.
 pub fn placed_in(ranges: &Ranges, cell: &Cell) -> Placed
     requires ranges { AreRanges ranges.now }
     requires cell { IsCell (cells_of ranges.now) cell.now }

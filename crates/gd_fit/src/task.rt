@@ -24,9 +24,9 @@ use gd_zone::{Condition, Subject, holds};
 use std::alloc::{AllocError, Global};
 
 /// A group of conditions as a task: is there a placement in range at which all of them hold? `base` is the part's first
-/// point, in units, about which placements turn the part. Conditions stand beside their points, which are those of `table`,
-/// and are numbered from 1. A witness is a root, three ratios in 2^-30, the translation and the offsets in fine units of
-/// 2^-16 unit.
+/// point, in units, about which placements turn the part. Conditions stand beside their points, which are those of
+/// `table`, and are numbered from 1. A witness is a root, three ratios in 2^-30, the translation and the offsets in
+/// fine units of 2^-16 unit.
 #[derive(Drop)]
 pub struct PlacementTask<'a> {
     pub ranges: Ranges,
@@ -59,8 +59,8 @@ fn subjects_of<'a>(
     Ok(subjects)
 }
 
-/// The task of a group of conditions on the points of an index. Each condition's points are found once, here. `base` is the
-/// part's first point, in units.
+/// The task of a group of conditions on the points of an index. Each condition's points are found once, here. `base` is
+/// the part's first point, in units.
 pub fn placement_task<'a>(
     alloc: Global,
     ranges: Ranges,

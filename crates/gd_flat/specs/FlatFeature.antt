@@ -29,7 +29,8 @@ by_places judged e = record { condition = e.condition; a = place_in judged e.a; 
 
 -- ---- the tests are those of the judged points alone
 abbrev pub first_among : List Row → List ℕ → ℕ → DirBox → Option Evidence
-first_among rows judged tolerance b = option_map (by_numbers judged) (first_evidence (judged_rows rows judged) tolerance b)
+first_among rows judged tolerance b =
+    option_map (by_numbers judged) (first_evidence (judged_rows rows judged) tolerance b)
 
 abbrev pub is_refuted_among : List Row → List ℕ → ℕ → DirBox → Evidence → Bool
 is_refuted_among rows judged tolerance b e = is_refuted (judged_rows rows judged) tolerance b (by_places judged e)

@@ -1,5 +1,6 @@
 -- Flatness as a task over the cells of three faces.
-use Rattle.std.specs.Prelude.{ℕ, ◌^◌, ℤ, pos, Bool, ◌&&◌, nat_le, List, [], ◌∷◌, get_or, unsigned_abs}
+use Rattle.std.specs.Prelude.{ℕ, ℤ, pos, Bool, ◌&&◌, nat_le, List, [], ◌∷◌, get_or, unsigned_abs}
+use Rattle.gd_base.specs.Scales.{ONE}
 use Rattle.gd_cells.specs.Witnesses.{witness_of, zeros_behind}
 use Rattle.gd_cells.specs.Meaning.{Questions}
 use Rattle.gd_cells.specs.declared.cell.Cell.{Cell}
@@ -41,7 +42,7 @@ ratio_at ratio w = get_or w.at ratio (pos 0)
 abbrev pub is_in_range : Witness → Bool
 is_in_range w =
     nat_le 1 w.root && (nat_le w.root 3
-    && (nat_le (unsigned_abs (ratio_at 0 w)) (2 ^ 30) && (nat_le (unsigned_abs (ratio_at 1 w)) (2 ^ 30) && zeros_behind 2 w)))
+    && (nat_le (unsigned_abs (ratio_at 0 w)) ONE && (nat_le (unsigned_abs (ratio_at 1 w)) ONE && zeros_behind 2 w)))
 
 -- the direction of a witness
 abbrev pub direction_at : Witness → V3

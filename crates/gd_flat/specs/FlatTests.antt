@@ -1,8 +1,10 @@
 -- The written tests of flatness: when two points refute a box of directions, and when a direction holds.
-use Rattle.std.specs.Prelude.{ℕ, ◌≡◌, ◌^◌, ◌+◌, ◌-◌, ℤ, pos, ◌+ℤ◌, ◌-ℤ◌, ◌*ℤ◌, Bool, ◌&&◌, nat_eq, nat_le, Option, Some, None, List, [], ◌∷◌, get_or, length, map, if◌then◌else◌}
+use Rattle.std.specs.Prelude.{ℕ, ◌≡◌, ◌+◌, ◌-◌, ℤ, pos, ◌+ℤ◌, ◌-ℤ◌, ◌*ℤ◌, Bool, ◌&&◌, nat_eq, nat_le, Option, Some}
+use Rattle.std.specs.Prelude.{None, List, [], ◌∷◌, get_or, length, map, if◌then◌else◌}
 use Rattle.std.specs.Int.{int_max, int_min}
 use Rattle.std.specs.List.{fold, position_or_len}
 use Rattle.std.specs.Ordering.{int_eq, is_gt, is_le}
+use Rattle.gd_base.specs.Scales.{ONE}
 use Rattle.gd_cells.specs.declared.cell.Evidence.{Evidence}
 use Rattle.gd_dir.specs.declared.shape.DirBox.{DirBox}
 use Rattle.gd_int.specs.Roots.{cmp_root_of}
@@ -20,7 +22,7 @@ scale_hi lo hi k = int_max (lo *ℤ k) (hi *ℤ k)
 
 -- both ends of an entry are 1, as along the axis that leads
 abbrev pub AreOne : ℤ → ℤ → Type 0
-AreOne lo hi = (lo ≡ pos (2 ^ 30)) × (hi ≡ pos (2 ^ 30))
+AreOne lo hi = (lo ≡ pos ONE) × (hi ≡ pos ONE)
 
 -- the least and the greatest value of a vector along the directions of a box
 abbrev pub low_along : DirBox → V3 → ℤ
@@ -39,7 +41,11 @@ most_norm2 b = square_hi b.lo.x b.hi.x +ℤ square_hi b.lo.y b.hi.y +ℤ square_
 
 -- the point at a place, from 0
 abbrev pub point_at : List Row → ℕ → V3
-point_at rows i = (get_or rows i (record { feature = 0; group = 0; at = record { x = pos 0; y = pos 0; z = pos 0 } })).at
+point_at rows i = (get_or rows i (record {
+  feature = 0;
+  group = 0;
+  at = record { x = pos 0; y = pos 0; z = pos 0 };
+})).at
 
 -- the first judged point
 abbrev pub first_point : List Row → V3
@@ -56,7 +62,9 @@ highs b rows = map (λ (row : Row). high_along b (difference row.at (first_point
 -- ---- what refutes a box
 -- the points at two places, from 0, are further apart than the tolerance along each direction of a box
 abbrev pub parts : List Row → ℕ → DirBox → ℕ → ℕ → Bool
-parts rows tolerance b i j = is_gt (cmp_root_of (get_or (lows b rows) i (pos 0) -ℤ get_or (highs b rows) j (pos 0)) (pos tolerance) (most_norm2 b))
+parts rows tolerance b i j =
+    is_gt (cmp_root_of (get_or (lows b rows) i (pos 0) -ℤ get_or (highs b rows) j (pos 0)) (pos tolerance)
+    (most_norm2 b))
 
 -- the greatest and the least of some numbers
 abbrev pub greatest : List ℤ → ℤ
@@ -94,7 +102,8 @@ is_refuted rows tolerance b e =
 -- the first evidence names the farthest point and the nearest: where these two don't part the box, no two do
 abbrev pub first_evidence : List Row → ℕ → DirBox → Option Evidence
 first_evidence rows tolerance b =
-    if parts rows tolerance b (farthest b rows) (nearest b rows) then Some (evidence_of (farthest b rows) (nearest b rows)) else None
+    if parts rows tolerance b (farthest b rows) (nearest b rows)
+    then Some (evidence_of (farthest b rows) (nearest b rows)) else None
 
 -- ---- when a direction holds
 -- how far the points lie along a direction

@@ -1,4 +1,5 @@
--- Flatness: a feature conforms where a zone between two parallel planes, as wide as the tolerance, holds all its points.
+-- Flatness: a feature conforms where a zone between two parallel planes, as wide as the tolerance, holds all its
+-- points.
 use Rattle.std.specs.Prelude.{ℕ, pos, ◌≤◌, List}
 use Rattle.std.specs.List.{All}
 use Rattle.gd_dir.specs.Directions.{LeadsAlong}

@@ -1,5 +1,6 @@
 -- The coordinates of the points along the axis on which a box of directions leads, and along the two others.
-use Rattle.std.specs.Prelude.{ℕ, ℤ, pos, ◌≡◌, ◌≤◌, ◌^◌, List, map}
+use Rattle.std.specs.Prelude.{ℕ, ℤ, pos, ◌≡◌, ◌≤◌, List, map}
+use Rattle.gd_base.specs.Scales.{ONE}
 use Rattle.gd_dir.specs.Directions.{entry}
 use Rattle.gd_dir.specs.declared.shape.DirBox.{DirBox}
 use Rattle.gd_points.specs.declared.table.Row.{Row}
@@ -8,8 +9,8 @@ use Rattle.gd_points.specs.declared.table.Row.{Row}
 pub record LeadsByOne (b : DirBox) : Type 0 where
   pub first : 1 ≤ b.lead
   pub last : b.lead ≤ 3
-  pub lo : entry b.lead b.lo ≡ pos (2 ^ 30)
-  pub hi : entry b.lead b.hi ≡ pos (2 ^ 30)
+  pub lo : entry b.lead b.lo ≡ pos ONE
+  pub hi : entry b.lead b.hi ≡ pos ONE
 
 -- the coordinates of the points along an axis
 abbrev pub coordinates : ℕ → List Row → List ℤ

@@ -6,3 +6,4 @@ pub mod Judged
 pub mod Laws
 pub mod Leading
 pub mod PointRows
+pub mod Sizes

@@ -1,9 +1,10 @@
 // The extreme values of the points along the directions of a box. They don't depend on the tolerance.
-ghost use Rattle.std.specs.Prelude.{◌≡◌, ◌<◌, ◌≤◌, ◌≤ℤ◌, ◌^◌, ◌*◌, false, unsigned_abs, cond, int_lt, length, take};
+ghost use Rattle.std.specs.Prelude.{◌≡◌, ◌<◌, ◌≤◌, ◌≤ℤ◌, ◌*◌, false, unsigned_abs, cond, int_lt, length, take};
 ghost use Rattle.std.specs.List.{All};
 ghost use Rattle.std.specs.Ordering.{int_eq};
 ghost use Rattle.gd_flat.specs.FlatTests.{greatest, highs, least, lows, place_of};
 ghost use Rattle.gd_flat.specs.PointRows.{rows_in};
+ghost use Rattle.gd_flat.specs.Sizes.{VALUE_SIZE};
 
 use crate::face::{Face, Span, span_at};
 use crate::points::{block_end, count_of};
@@ -20,8 +21,8 @@ pub struct Extreme {
 pub struct Extremes {
     pub farthest: Extreme,
     pub nearest: Extreme,
-    ghost lo_size: { unsigned_abs farthest.value ≤ 3 * 2 ^ 54 },
-    ghost hi_size: { unsigned_abs nearest.value ≤ 3 * 2 ^ 54 },
+    ghost lo_size: { unsigned_abs farthest.value ≤ VALUE_SIZE },
+    ghost hi_size: { unsigned_abs nearest.value ≤ VALUE_SIZE },
 }
 
 // The greatest least value and the least greatest value of the points before a place, from those before an earlier one.
@@ -105,8 +106,9 @@ pub fn extremes_along(face: &Face<'_>) -> Extremes
 
 // The first point that has this least value, where no point before has it.
 pub fn first_low(face: &Face<'_>, far: Extreme) -> usize
-    requires before { All (λ value. int_eq far.value value ≡ false) (take far.from (lows face.now.directions (rows_in face.now.points))) }
-    requires size { unsigned_abs far.value ≤ 3 * 2 ^ 54 }
+    requires before { All (λ value. int_eq far.value value ≡ false)
+        (take far.from (lows face.now.directions (rows_in face.now.points))) }
+    requires size { unsigned_abs far.value ≤ VALUE_SIZE }
     requires from { far.from ≤ length (rows_in face.now.points) }
     ensures place { result ≡ place_of far.value (lows face.now.directions (rows_in face.now.points)) }
     ensures inside { result ≤ length (rows_in face.now.points) }
@@ -122,8 +124,9 @@ pub fn first_low(face: &Face<'_>, far: Extreme) -> usize
 
 // The first point that has this greatest value, where no point before has it.
 pub fn first_high(face: &Face<'_>, near: Extreme) -> usize
-    requires before { All (λ value. int_eq near.value value ≡ false) (take near.from (highs face.now.directions (rows_in face.now.points))) }
-    requires size { unsigned_abs near.value ≤ 3 * 2 ^ 54 }
+    requires before { All (λ value. int_eq near.value value ≡ false)
+        (take near.from (highs face.now.directions (rows_in face.now.points))) }
+    requires size { unsigned_abs near.value ≤ VALUE_SIZE }
     requires from { near.from ≤ length (rows_in face.now.points) }
     ensures place { result ≡ place_of near.value (highs face.now.directions (rows_in face.now.points)) }
     ensures inside { result ≤ length (rows_in face.now.points) }

@@ -1,19 +1,22 @@
 // A box of directions beside the coordinates of the points, in the order of the axis on which the box leads.
-ghost use Rattle.std.specs.Prelude.{◌≡◌, ◌<◌, ◌≤◌, ◌≤ℤ◌, ◌^◌, ◌*◌, ◌-ℤ◌, ◌*ℤ◌, pos, unsigned_abs, cond, get_or, int_lt, length};
+ghost use Rattle.std.specs.Prelude.{◌≡◌, ◌<◌, ◌≤◌, ◌≤ℤ◌, ◌*◌, ◌-ℤ◌, ◌*ℤ◌, pos, unsigned_abs, cond, get_or, int_lt};
+ghost use Rattle.std.specs.Prelude.{length};
 ghost use Rattle.std.specs.List.{All};
 ghost use Rattle.gd_base.specs.Limits.{COORDINATE, TOLERANCE};
+ghost use Rattle.gd_base.specs.Scales.{ONE};
 ghost use Rattle.gd_dir.specs.Boxes.{IsBox};
 ghost use Rattle.gd_dir.specs.Directions.{first_other, second_other};
 ghost use Rattle.gd_flat.specs.FlatTests.{highs, lows, scale_hi, scale_lo};
 ghost use Rattle.gd_flat.specs.PointRows.{rows_in};
 ghost use Rattle.gd_flat.specs.Leading.{IsAxis, LeadsByOne, coordinates};
+ghost use Rattle.gd_flat.specs.Sizes.{PRODUCT_SIZE, VALUE_SIZE};
 
 use crate::points::Points;
 use crate::products::{short, sum, times};
 use gd_dir::DirBox;
 
-/// 1 as an entry of a direction, in 2^-30.
-const ONE: i32 = 1 << 30;
+/// The entry of each direction along the leading axis: 1, in 2^-30.
+const LEAD: i32 = 1 << 30;
 
 // The coordinates of the points along an axis, in units.
 #[derive(Clone, Copy)]
@@ -29,8 +32,8 @@ pub struct Axis<'a> {
     lo: i32,
     hi: i32,
     ghost order: { lo ≤ℤ hi },
-    ghost lo_size: { unsigned_abs lo ≤ 2 ^ 30 },
-    ghost hi_size: { unsigned_abs hi ≤ 2 ^ 30 },
+    ghost lo_size: { unsigned_abs lo ≤ ONE },
+    ghost hi_size: { unsigned_abs hi ≤ ONE },
 }
 
 /// A box of directions and the points. Along its leading axis every direction is 1, so one product gives both ends of a
@@ -45,8 +48,10 @@ pub struct Face<'a> {
     ghost is_box: { IsBox directions },
     ghost leads: { LeadsByOne directions },
     ghost lead_is: { lead.values.now ≡ coordinates directions.lead (rows_in points) },
-    ghost first_is: { IsAxis (first_other directions.lead) directions (rows_in points) first.along.values.now first.lo first.hi },
-    ghost second_is: { IsAxis (second_other directions.lead) directions (rows_in points) second.along.values.now second.lo second.hi },
+    ghost first_is: { IsAxis (first_other directions.lead) directions
+        (rows_in points) first.along.values.now first.lo first.hi },
+    ghost second_is: { IsAxis (second_other directions.lead) directions
+        (rows_in points) second.along.values.now second.lo second.hi },
 }
 
 // The least and the greatest of some values, in units and 2^-30.
@@ -54,8 +59,8 @@ pub struct Face<'a> {
 pub struct Span {
     pub lo: i64,
     pub hi: i64,
-    ghost lo_size: { unsigned_abs lo ≤ 3 * 2 ^ 54 },
-    ghost hi_size: { unsigned_abs hi ≤ 3 * 2 ^ 54 },
+    ghost lo_size: { unsigned_abs lo ≤ VALUE_SIZE },
+    ghost hi_size: { unsigned_abs hi ≤ VALUE_SIZE },
 }
 
 // The coordinates of the points along an axis.
@@ -69,8 +74,8 @@ fn coordinates_of(values: &[i32]) -> Coordinates<'_>
 // An axis other than the leading one.
 fn axis_of(along: Coordinates<'_>, lo: i64, hi: i64) -> Axis<'_>
     requires order { lo ≤ℤ hi }
-    requires lo { unsigned_abs lo ≤ 2 ^ 30 }
-    requires hi { unsigned_abs hi ≤ 2 ^ 30 }
+    requires lo { unsigned_abs lo ≤ ONE }
+    requires hi { unsigned_abs hi ≤ ONE }
     ensures along { result.along.values.now ≡ along.entry.values.now }
     ensures lo { result.lo ≡ lo }
     ensures hi { result.hi ≡ hi }
@@ -158,10 +163,10 @@ fn apart(along: &Coordinates<'_>, at: usize) -> i32
 // One of two entries, by the sign of a difference of coordinates.
 #[inline(always)]
 fn end_by_sign(plus: i32, minus: i32, by: i32) -> i32
-    requires plus { unsigned_abs plus ≤ 2 ^ 30 }
-    requires minus { unsigned_abs minus ≤ 2 ^ 30 }
+    requires plus { unsigned_abs plus ≤ ONE }
+    requires minus { unsigned_abs minus ≤ ONE }
     ensures value { result ≡ cond (int_lt by (pos 0)) minus plus }
-    ensures size { unsigned_abs result ≤ 2 ^ 30 }
+    ensures size { unsigned_abs result ≤ ONE }
 {
     if by < 0 { minus } else { plus }
 }
@@ -171,7 +176,7 @@ fn end_by_sign(plus: i32, minus: i32, by: i32) -> i32
 fn least_product(axis: &Axis<'_>, by: i32) -> i64
     requires { unsigned_abs by ≤ TOLERANCE }
     ensures value { result ≡ scale_lo axis.now.lo axis.now.hi by }
-    ensures size { unsigned_abs result ≤ 2 ^ 54 }
+    ensures size { unsigned_abs result ≤ PRODUCT_SIZE }
 {
     times(end_by_sign(axis.lo, axis.hi, by), by)
 }
@@ -181,7 +186,7 @@ fn least_product(axis: &Axis<'_>, by: i32) -> i64
 fn greatest_product(axis: &Axis<'_>, by: i32) -> i64
     requires { unsigned_abs by ≤ TOLERANCE }
     ensures value { result ≡ scale_hi axis.now.lo axis.now.hi by }
-    ensures size { unsigned_abs result ≤ 2 ^ 54 }
+    ensures size { unsigned_abs result ≤ PRODUCT_SIZE }
 {
     times(end_by_sign(axis.hi, axis.lo, by), by)
 }
@@ -193,7 +198,7 @@ pub fn span_at(face: &Face<'_>, at: usize) -> Span
     ensures lo { result.lo ≡ get_or (lows face.now.directions (rows_in face.now.points)) at (pos 0) }
     ensures hi { result.hi ≡ get_or (highs face.now.directions (rows_in face.now.points)) at (pos 0) }
 {
-    let lead = times(ONE, apart(&face.lead, at));
+    let lead = times(LEAD, apart(&face.lead, at));
     let first = apart(&face.first.along, at);
     let second = apart(&face.second.along, at);
     Span {

@@ -18,8 +18,8 @@ use gd_dir::{centre_of, face_box};
 use gd_points::{PointIndex, PointList};
 
 /// The flatness of the points of a feature, or of a group of it, to a tolerance in units of 0.1 micrometre (ASME
-/// Y14.5M-1994, 6.4.2). `numbers` are the places of the points in the table, from 0, which ascend; evidence names points
-/// by their numbers in the table, from 1. A witness is a face and two ratios in 2^-30.
+/// Y14.5M-1994, 6.4.2). `numbers` are the places of the points in the table, from 0, which ascend; evidence names
+/// points by their numbers in the table, from 1. A witness is a face and two ratios in 2^-30.
 #[derive(Clone, Copy)]
 pub struct FeatureTask<'a> {
     pub points: Points<'a>,
@@ -173,7 +173,8 @@ fn points_of<'a>(index: &'a PointIndex<'a>, feature: u32, group: Option<u32>) ->
     }
 }
 
-// The place among the judged points, from 1, of the point with a number in the table, from 1: none is 0 or past the last.
+// The place among the judged points, from 1, of the point with a number in the table, from 1: none is 0 or past the
+// last.
 fn place_in(numbers: &[u32], number: u32) -> u32
     requires up { IsNonDecreasingBy (λ n. n) numbers.now }
     requires few { length numbers.now ≤ POINTS }

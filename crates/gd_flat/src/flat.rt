@@ -1,13 +1,16 @@
 // What refutes a box of directions for flatness.
-ghost use Rattle.std.specs.Prelude.{◌≡◌, ◌<◌, ◌≤◌, ◌^◌, ◌*◌, ◌-ℤ◌, ◌*ℤ◌, ◌≤ℤ◌, pos, false, unsigned_abs, length, nat_le, take, ◌&&◌};
+ghost use Rattle.std.specs.Prelude.{◌≡◌, ◌<◌, ◌≤◌, ◌^◌, ◌*◌, ◌-ℤ◌, ◌*ℤ◌, ◌≤ℤ◌, pos, false, unsigned_abs, length};
+ghost use Rattle.std.specs.Prelude.{nat_le, take, ◌&&◌};
 ghost use Rattle.std.specs.List.{All};
 ghost use Rattle.std.specs.Ordering.{int_eq, is_gt};
 ghost use Rattle.gd_base.specs.Limits.{TOLERANCE};
+ghost use Rattle.gd_base.specs.Scales.{ONE};
 ghost use Rattle.gd_dir.specs.Boxes.{IsBox};
 ghost use Rattle.gd_flat.specs.FlatTests.{evidence_of, first_evidence, highs, is_point, is_refuted, lows};
 ghost use Rattle.gd_flat.specs.FlatTests.{most_norm2, parts, place_of, square_hi};
 ghost use Rattle.gd_flat.specs.PointRows.{rows_in};
 ghost use Rattle.gd_flat.specs.Leading.{LeadsByOne};
+ghost use Rattle.gd_flat.specs.Sizes.{VALUE_SIZE};
 ghost use Rattle.gd_int.specs.Roots.{cmp_root_of};
 ghost use Rattle.gd_vec.specs.Vector.{IsWithin};
 
@@ -24,8 +27,8 @@ const FLATNESS: u32 = 1;
 // The greater of two entries of a direction squared.
 #[inline]
 fn greater_square(lo: i64, hi: i64) -> i128
-    requires lo { unsigned_abs lo ≤ 2 ^ 30 }
-    requires hi { unsigned_abs hi ≤ 2 ^ 30 }
+    requires lo { unsigned_abs lo ≤ ONE }
+    requires hi { unsigned_abs hi ≤ ONE }
     ensures value { result ≡ square_hi lo hi }
     ensures not_negative { pos 0 ≤ℤ result }
     ensures size { unsigned_abs result ≤ 2 ^ 60 }
@@ -36,7 +39,7 @@ fn greater_square(lo: i64, hi: i64) -> i128
 // The square of an entry of a direction.
 #[inline]
 fn square(a: i64) -> i128
-    requires { unsigned_abs a ≤ 2 ^ 30 }
+    requires { unsigned_abs a ≤ ONE }
     ensures value { result ≡ a *ℤ a }
     ensures not_negative { pos 0 ≤ℤ result }
     ensures size { unsigned_abs result ≤ 2 ^ 60 }
@@ -58,8 +61,8 @@ fn greatest_norm2(b: &DirBox) -> i128
 // `lo` is the least value of the one point, `hi` the greatest of the other.
 fn are_parted(b: &DirBox, lo: i64, hi: i64, tolerance: u32) -> bool
     requires directions { IsBox b.now }
-    requires lo { unsigned_abs lo ≤ 3 * 2 ^ 54 }
-    requires hi { unsigned_abs hi ≤ 3 * 2 ^ 54 }
+    requires lo { unsigned_abs lo ≤ VALUE_SIZE }
+    requires hi { unsigned_abs hi ≤ VALUE_SIZE }
     requires tolerance { tolerance ≤ TOLERANCE }
     ensures { result ≡ is_gt (cmp_root_of (lo -ℤ hi) (pos tolerance) (most_norm2 b.now)) }
 {

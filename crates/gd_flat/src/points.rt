@@ -46,8 +46,10 @@ pub fn count_of(points: &Points<'_>) -> usize
 #[inline(always)]
 pub fn place_at(points: &Points<'_>, at: usize) -> Place
     requires { at < length (chosen_rows points.now.table.now.rows (option_map (λ n. n.now) points.now.numbers)) }
-    ensures value { record { x = result.x; y = result.y; z = result.z } ≡ point_at (chosen_rows points.now.table.now.rows (option_map (λ n. n.now) points.now.numbers)) at }
-    ensures size { IsWithin COORDINATE (point_at (chosen_rows points.now.table.now.rows (option_map (λ n. n.now) points.now.numbers)) at) }
+    ensures value { record { x = result.x; y = result.y; z = result.z } ≡ point_at
+        (chosen_rows points.now.table.now.rows (option_map (λ n. n.now) points.now.numbers)) at }
+    ensures size { IsWithin COORDINATE (point_at (chosen_rows points.now.table.now.rows
+        (option_map (λ n. n.now) points.now.numbers)) at) }
 {
     Place {
         x: points.columns.x[at],

@@ -1,6 +1,7 @@
 // Flatness as a task over the cells of three faces.
-ghost use Rattle.std.specs.Prelude.{◌≡◌, ◌<◌, ◌≤◌, ◌^◌, None, length, nat_le, option_map, true, unsigned_abs};
+ghost use Rattle.std.specs.Prelude.{◌≡◌, ◌<◌, ◌≤◌, None, length, nat_le, option_map, true, unsigned_abs};
 ghost use Rattle.gd_base.specs.Limits.{POINTS, TOLERANCE};
+ghost use Rattle.gd_base.specs.Scales.{ONE};
 ghost use Rattle.gd_flat.specs.Laws.Task.{flat_laws};
 ghost use Rattle.gd_flat.specs.FlatTask.{IsFeasible, IsInside, assignment_of, direction_at, is_in_range, questions_of};
 ghost use Rattle.gd_flat.specs.FlatTests.{is_within};
@@ -16,8 +17,9 @@ use gd_points::PointTable;
 /// The ratios -1 and 1 have this size, in 2^-30.
 const ONE: u64 = 1 << 30;
 
-/// The flatness of some points to a tolerance (ASME Y14.5M-1994, 6.4.2): some direction has all points between two planes across it
-/// that lie the tolerance apart. The cells are boxes of directions on three faces of a cube. A witness is a face and two ratios in 2^-30.
+/// The flatness of some points to a tolerance (ASME Y14.5M-1994, 6.4.2): some direction has all points between two
+/// planes across it that lie the tolerance apart. The cells are boxes of directions on three faces of a cube. A witness
+/// is a face and two ratios in 2^-30.
 #[derive(Clone, Copy)]
 pub struct FlatTask<'a> {
     pub points: Points<'a>,
@@ -126,7 +128,7 @@ pub fn holds_at(points: &Points<'_>, tolerance: u32, witness: &Witness) -> bool
 // Whether a ratio in 2^-30 lies between -1 and 1.
 #[inline]
 fn is_ratio(ratio: i64) -> bool
-    ensures { result ≡ nat_le (unsigned_abs ratio) (2 ^ 30) }
+    ensures { result ≡ nat_le (unsigned_abs ratio) ONE }
 {
     ratio.unsigned_abs() <= ONE
 }

@@ -1,6 +1,6 @@
 -- A form as a task: what its record asks, and that it keeps the laws.
-use Rattle.std.specs.Prelude.{ℕ, ◌≡◌, ◌⊎◌, refl, List, get_or}
-use Rattle.gd_axis.specs.AxisBoxes.{IsLeastPower}
+use Rattle.std.specs.Prelude.{ℕ, ◌≡◌, refl, List, get_or}
+use Rattle.gd_axis.specs.AxisBoxes.{least_power}
 use Rattle.gd_axis.specs.AxisTask.{Asked, IsAsked, asked_of, axis_questions}
 use Rattle.gd_axis.specs.Laws.AxisTask.{axis_laws}
 use Rattle.gd_cells.specs.Laws.{Laws}
@@ -25,16 +25,15 @@ asked_by (form.Axis t) = asked_of t.shape t.direction t.own t.shift t.tolerance 
 -- what a definition asks of the rows of a table: its own shape and tolerance, of the points of its feature, or of its
 -- group. A line's own point is its first, and its shift the least that loses no line; a circle and a cylinder have those
 -- of the definition
-pub record IsAskedFor (def : FormDef) (table : List Row) (q : Asked) : Type 0 where
-  pub shape : q.shape ≡ def.shape
-  pub tolerance : q.tolerance ≡ def.tolerance
-  pub rows : q.rows ≡ table
-  pub judged : q.judged ≡ numbers_of def.feature def.group table
-  pub direction : def.shape ≡ Circle → q.direction ≡ def.direction
-  pub first : def.shape ≡ Line → q.own ≡ point_at table (get_or q.judged 0 0)
-  pub least : def.shape ≡ Line → IsLeastPower def.tolerance q.shift
-  pub point : (def.shape ≡ Circle) ⊎ (def.shape ≡ Cylinder) → q.own ≡ def.point
-  pub shift : (def.shape ≡ Circle) ⊎ (def.shape ≡ Cylinder) → q.shift ≡ def.shift
+abbrev pub asked_about : FormShape → FormDef → List Row → List ℕ → Asked
+asked_about Flat def rows judged = asked_of Flat ORIGIN ORIGIN 0 def.tolerance rows judged
+asked_about Line def rows judged =
+    asked_of Line def.direction (point_at rows (get_or judged 0 0)) (least_power def.tolerance) def.tolerance rows judged
+asked_about Circle def rows judged = asked_of Circle def.direction def.point def.shift def.tolerance rows judged
+asked_about Cylinder def rows judged = asked_of Cylinder def.direction def.point def.shift def.tolerance rows judged
+
+abbrev pub asked_for : FormDef → List Row → Asked
+asked_for def rows = asked_about def.shape def rows (numbers_of def.feature def.group rows)
 
 -- ---- a form about an axis asks what gd_axis asks
 pub axis_is : (s : FormShape) (d own : V3) (shift t : ℕ) (rows : List Row) (judged : List ℕ) → (s ≡ Flat → ⊥)

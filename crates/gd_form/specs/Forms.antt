@@ -13,13 +13,16 @@ use Rattle.gd_flat.specs.FlatTask.{IsInside, assignment_of, axis_of, direction_a
 use Rattle.gd_flat.specs.Flatness.{IsFlatAlong}
 use Rattle.gd_flat.specs.Judged.{judged_rows}
 
--- the form of a shape is met: along a direction two planes hold the judged points between them, or about an axis its zone
--- holds them
+-- the form of a shape is met: along a direction two planes hold the judged points between them, or about an axis its
+-- zone holds them
 abbrev pub IsMet : FormShape → Asked → List ℤ → Type 0
 IsMet Flat q a = IsFlatAlong (judged_rows q.rows q.judged) q.tolerance (axis_of a) (vector_of a)
-IsMet Line q a = IsMetAbout Line (points_at q.rows q.judged) q.tolerance q.shift q.direction q.own (lead_in a) (axis_in a)
-IsMet Circle q a = IsMetAbout Circle (points_at q.rows q.judged) q.tolerance q.shift q.direction q.own (lead_in a) (axis_in a)
-IsMet Cylinder q a = IsMetAbout Cylinder (points_at q.rows q.judged) q.tolerance q.shift q.direction q.own (lead_in a) (axis_in a)
+IsMet Line q a = IsMetAbout Line (points_at q.rows q.judged) q.tolerance q.shift q.direction q.own (lead_in a)
+    (axis_in a)
+IsMet Circle q a = IsMetAbout Circle (points_at q.rows q.judged) q.tolerance q.shift q.direction q.own (lead_in a)
+    (axis_in a)
+IsMet Cylinder q a = IsMetAbout Cylinder (points_at q.rows q.judged) q.tolerance q.shift q.direction q.own (lead_in a)
+    (axis_in a)
 
 -- what is asked is met by an assignment: a direction, or an axis
 abbrev pub MeetsForm : Asked → List ℤ → Type 0

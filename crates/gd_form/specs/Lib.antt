@@ -1,2 +1,3 @@
-pub mod Forms
+pub mod FormNumbers
 pub mod FormTasks
+pub mod Forms

@@ -3,7 +3,7 @@ ghost use Rattle.std.specs.Prelude.{◌≡◌, ◌<◌, ◌≤◌, ◌^◌, leng
 ghost use Rattle.gd_base.specs.Limits.{TOLERANCE};
 ghost use Rattle.gd_dir.specs.declared.shape.FormShape.TheVariants.{Flat};
 ghost use Rattle.gd_flat.specs.Judged.{numbers_of};
-ghost use Rattle.gd_form.specs.FormTasks.{IsAskedFor, asked_by};
+ghost use Rattle.gd_form.specs.FormTasks.{asked_by, asked_for};
 ghost use Rattle.gd_vec.specs.Vector.{IsWithin};
 
 use crate::form::{FormDef, FormTask};
@@ -21,7 +21,7 @@ pub fn form_task<'a>(index: &'a PointIndex<'a>, def: &FormDef) -> FormTask<'a>
     requires point { IsWithin (2 ^ 26) def.now.point }
     requires shift { def.now.shift ≤ 28 }
     requires tolerance { def.now.tolerance ≤ TOLERANCE }
-    ensures asked { IsAskedFor def.now index.now.table.now.rows (asked_by result) }
+    ensures asked { asked_by result ≡ asked_for def.now index.now.table.now.rows }
 {
     match def.shape {
         FormShape::Flat => flat_form(index, def),
@@ -36,7 +36,7 @@ fn flat_form<'a>(index: &'a PointIndex<'a>, def: &FormDef) -> FormTask<'a>
     requires flat { def.now.shape ≡ Flat }
     requires some { 0 < length (numbers_of def.now.feature def.now.group index.now.table.now.rows) }
     requires tolerance { def.now.tolerance ≤ TOLERANCE }
-    ensures asked { IsAskedFor def.now index.now.table.now.rows (asked_by result) }
+    ensures asked { asked_by result ≡ asked_for def.now index.now.table.now.rows }
 {
     FormTask::Flat(feature_task(index, def.feature, def.group, def.tolerance))
 }
@@ -49,7 +49,7 @@ fn axis_form<'a>(index: &'a PointIndex<'a>, def: &FormDef) -> FormTask<'a>
     requires point { IsWithin (2 ^ 26) def.now.point }
     requires shift { def.now.shift ≤ 28 }
     requires tolerance { def.now.tolerance ≤ TOLERANCE }
-    ensures asked { IsAskedFor def.now index.now.table.now.rows (asked_by result) }
+    ensures asked { asked_by result ≡ asked_for def.now index.now.table.now.rows }
 {
     let about = AxisDef {
         shape: def.shape,

@@ -145,7 +145,8 @@ fn frame_offsets(features: &[FeatureDef], frame: &FrameDef) -> u32
     total
 }
 
-fn is_joined(frame: &FrameDef) -> bool
+/// Whether a frame may be judged with others: a position or a profile that has datum words and isn't separate.
+pub fn is_joined(frame: &FrameDef) -> bool
     ensures { result ≡ is_joined (frame_of frame.now) }
 {
     matches!(frame.kind, Kind::Position | Kind::Profile)
@@ -153,7 +154,9 @@ fn is_joined(frame: &FrameDef) -> bool
         && !frame.separate
 }
 
-fn joins(f: &FrameDef, g: &FrameDef) -> bool
+/// Whether two frames are judged together: both may be, and they have the same datum words, with their `(M)`, in the
+/// same order (docs/KINDS.md, "What is this project's own").
+pub fn joins(f: &FrameDef, g: &FrameDef) -> bool
     ensures { result ≡ joins (frame_of f.now) (frame_of g.now) }
 {
     is_joined(f)

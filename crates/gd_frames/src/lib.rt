@@ -11,6 +11,7 @@ mod read;
 #[cfg(test)]
 mod tests;
 
+pub use counts::{is_joined, joins};
 pub use gd_tables::{
     DatumDef, DatumRef, FeatureDef, FrameDef, FrameFile, Kind, Material, Shape, Turn,
 };

@@ -2,11 +2,19 @@
 use Rattle.std.specs.Prelude.{ℕ, ℤ, pos, ◌+◌, ◌*◌, ◌-◌, ◌/◌, ◌^◌, ◌≤◌, ◌+ℤ◌, ◌-ℤ◌, unsigned_abs}
 use Rattle.gd_grid.specs.declared.coordinate.Coordinate.{Coordinate}
 
--- at least 2 wide and at most 2^45, and no further from 0 than that
+-- how wide a coordinate's range is at most, and how far from 0 it begins
+abbrev pub COORDINATE_SIZE : ℕ
+COORDINATE_SIZE = 2 ^ 45
+
+-- how far from 0 a number of it is at most
+abbrev pub END_SIZE : ℕ
+END_SIZE = 2 ^ 46
+
+-- at least 2 wide and at most 2^45, and it begins no further from 0 than that
 pub record IsCoordinate (k : Coordinate) : Type 0 where
   pub some : 1 ≤ k.bits
   pub few : k.bits ≤ 45
-  pub near : unsigned_abs k.low ≤ 2 ^ 45
+  pub near : unsigned_abs k.low ≤ COORDINATE_SIZE
 
 -- where its range ends
 abbrev pub high : Coordinate → ℤ

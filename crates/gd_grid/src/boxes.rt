@@ -1,6 +1,7 @@
 // The boxes of a cell.
 ghost use Rattle.std.specs.Prelude.{◌≡◌, ◌≤◌, ◌+◌, ◌*◌, ◌/◌, ◌^◌, ◌+ℤ◌, ◌≤ℤ◌, get_or, pos, unsigned_abs};
 ghost use Rattle.gd_grid.specs.Coordinates.{high_after, low_after, middle_after, width_after};
+ghost use Rattle.gd_grid.specs.Coordinates.{COORDINATE_SIZE, END_SIZE};
 ghost use Rattle.gd_grid.specs.Turns.{HasBox, turns};
 
 use crate::coordinate::{Coordinate, Ends, power};
@@ -17,8 +18,8 @@ pub fn coordinate_box(k: &Coordinate, number: u32, dims: u32, c: &Cell) -> Ends
     ensures ordered { result.lo ≤ℤ result.hi }
     ensures above { k.now.low ≤ℤ result.lo }
     ensures below { result.hi ≤ℤ (k.now.low +ℤ pos (2 ^ k.now.bits)) }
-    ensures lo_size { unsigned_abs result.lo ≤ 2 ^ 46 }
-    ensures hi_size { unsigned_abs result.hi ≤ 2 ^ 46 }
+    ensures lo_size { unsigned_abs result.lo ≤ END_SIZE }
+    ensures hi_size { unsigned_abs result.hi ≤ END_SIZE }
 {
     box_at(
         k.low,
@@ -34,7 +35,7 @@ pub fn coordinate_middle(k: &Coordinate, number: u32, dims: u32, c: &Cell) -> i6
     ensures value { result ≡ middle_after k.now (turns dims number c.now.level) (get_or c.now.index number 0) }
     ensures above { k.now.low ≤ℤ result }
     ensures below { result ≤ℤ (k.now.low +ℤ pos (2 ^ k.now.bits)) }
-    ensures size { unsigned_abs result ≤ 2 ^ 46 }
+    ensures size { unsigned_abs result ≤ END_SIZE }
 {
     middle_at(
         k.low,
@@ -49,7 +50,7 @@ fn width_of(k: &Coordinate, number: u32, dims: u32, c: &Cell) -> u64
     requires { HasBox k.now number dims c.now }
     ensures value { result ≡ width_after k.now (turns dims number c.now.level) }
     ensures room { get_or c.now.index number 0 * result + result ≤ 2 ^ k.now.bits }
-    ensures size { 2 ^ k.now.bits ≤ 2 ^ 45 }
+    ensures size { 2 ^ k.now.bits ≤ COORDINATE_SIZE }
 {
     power(k.bits - halvings_in_turn(dims, number, c.level))
 }
@@ -57,8 +58,8 @@ fn width_of(k: &Coordinate, number: u32, dims: u32, c: &Cell) -> u64
 // The box with a number, counted from 0, of boxes of a width.
 #[inline]
 fn box_at(low: i64, index: u64, width: u64) -> Ends
-    requires low { unsigned_abs low ≤ 2 ^ 45 }
-    requires room { index * width + width ≤ 2 ^ 45 }
+    requires low { unsigned_abs low ≤ COORDINATE_SIZE }
+    requires room { index * width + width ≤ COORDINATE_SIZE }
     ensures lo { result.lo ≡ low +ℤ pos (index * width) }
     ensures hi { result.hi ≡ low +ℤ pos (index * width) +ℤ pos width }
 {
@@ -72,8 +73,8 @@ fn box_at(low: i64, index: u64, width: u64) -> Ends
 // Its middle.
 #[inline]
 fn middle_at(low: i64, index: u64, width: u64) -> i64
-    requires low { unsigned_abs low ≤ 2 ^ 45 }
-    requires room { index * width + width ≤ 2 ^ 45 }
+    requires low { unsigned_abs low ≤ COORDINATE_SIZE }
+    requires room { index * width + width ≤ COORDINATE_SIZE }
     ensures { result ≡ low +ℤ pos (index * width) +ℤ pos (width / 2) }
 {
     low + (index * width) as i64 + (width / 2) as i64

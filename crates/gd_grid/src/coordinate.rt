@@ -1,6 +1,6 @@
 // A coordinate of a grid, and the ends of its boxes.
 ghost use Rattle.std.specs.Prelude.{◌≡◌, ◌≤◌, ◌^◌, unsigned_abs};
-ghost use Rattle.gd_grid.specs.Coordinates.{about};
+ghost use Rattle.gd_grid.specs.Coordinates.{COORDINATE_SIZE, about};
 
 /// What a coordinate of a grid runs through: from `low` on, 2^bits wide, both ends included. It has the scale of what
 /// it
@@ -36,7 +36,7 @@ pub fn about(centre: i64, bits: u32) -> Coordinate
 pub fn reach(bits: u32) -> u64
     requires { bits ≤ 45 }
     ensures value { result ≡ 2 ^ bits }
-    ensures size { result ≤ 2 ^ 45 }
+    ensures size { result ≤ COORDINATE_SIZE }
 {
     power(bits)
 }

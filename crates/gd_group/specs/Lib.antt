@@ -4,3 +4,7 @@ pub mod Lists
 pub mod Groups
 pub mod Conditions
 pub mod Labels
+pub mod Ranges
+pub mod Members
+pub mod Tasks
+pub mod TaskLaws

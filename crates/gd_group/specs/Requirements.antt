@@ -39,6 +39,11 @@ abbrev pub parts : List FeatureDef → List Row → Kind → Frame → List Part
 parts features rows kind.Circularity f = map part.Section (listed_at (sections rows) (form_feature features f))
 parts features rows _ f = part.Whole ∷ lower_part f.lower
 
+-- the section that a part is, by its number: the points of the section have it as their group
+abbrev pub section_of : Part → Option ℕ
+section_of (part.Section group) = Some group
+section_of _ = None
+
 -- a part of a frame, which is named by its place in the file
 abbrev pub requirement : ℕ → Part → Requirement
 requirement number p = record { frame = number; part = p }

@@ -9,10 +9,10 @@ ghost use Rattle.gd_group.specs.Conditions.{group_words, most_offsets, of_group,
 ghost use Rattle.gd_group.specs.Conditions.{of_whole, words_of, words_of_part};
 ghost use Rattle.gd_group.specs.Groups.{judged_with};
 ghost use Rattle.gd_group.specs.declared.requirement.Requirement.{Requirement};
-ghost use Rattle.gd_points.specs.Table.{HasRows};
 ghost use Rattle.gd_tables.specs.Kinds.{file_of, frame_of};
 ghost use Rattle.gd_zone.specs.Conditions.{IsCondition};
 
+use crate::points::show_points;
 use crate::requirement::{Part, Requirement};
 use gd_base::Memory;
 use gd_datum::datum_conditions;
@@ -35,11 +35,12 @@ pub fn conditions_of(
     requires file { IsFile index.now.table.now (file_of file.now) }
     ensures value { IfOk result (λ v. v.items ≡ of_group (file_of file.now) index.now.table.now.rows group.now) }
     ensures conditions { OnOk result (All IsCondition (of_group (file_of file.now) index.now.table.now.rows group.now)) }
-    ensures points { OnOk result (HasRows index.now.table.now.rows (length index.now.table.now.names)
-        → All (HasPoints index.now.table.now.rows) (of_group (file_of file.now) index.now.table.now.rows group.now)) }
+    ensures points { OnOk result
+        (All (HasPoints index.now.table.now.rows) (of_group (file_of file.now) index.now.table.now.rows group.now)) }
     ensures few { OnOk result ((r : Requirement) → group.now ≡ judged_with (file_of file.now) r
         → length (of_group (file_of file.now) index.now.table.now.rows group.now) ≤ CONDITIONS) }
 {
+    show_points(index);
     let mut conditions = Vec::new(alloc);
     append_words(alloc, file, index, group, &mut conditions)?;
     append_requirements(alloc, file, index, group, &mut conditions)?;

@@ -1,9 +1,7 @@
 // Which requirements are judged together.
 ghost use Rattle.std.specs.Prelude.{◌≡◌, ◌++◌, ◌∷◌, [], ◌≤◌, IfOk, OnOk, cond, filter, length, map, option_map};
 ghost use Rattle.gd_base.specs.Limits.{FRAMES};
-ghost use Rattle.gd_frames.specs.Combinations.{begin, same_word};
-ghost use Rattle.gd_frames.specs.Counts.{is_joined, joins};
-ghost use Rattle.gd_frames.specs.Facts.{IsFile};
+ghost use Rattle.gd_frames.specs.Counts.{joins};
 ghost use Rattle.gd_group.specs.Groups.{begins, groups, if_joined, is_first, joined_frame, judged_with, partners};
 ghost use Rattle.gd_group.specs.Groups.{whole};
 ghost use Rattle.gd_group.specs.Lists.{lists_of};
@@ -11,7 +9,7 @@ ghost use Rattle.gd_tables.specs.Kinds.{file_of, frame_of};
 
 use crate::requirement::{Part, Requirement};
 use gd_base::Memory;
-use gd_frames::{DatumRef, FrameDef, FrameFile, Kind};
+use gd_frames::{FrameDef, FrameFile, is_joined, joins};
 use std::alloc::Global;
 
 /// The requirements in groups: those that are judged together, so that one placement has to meet the conditions of all
@@ -138,42 +136,4 @@ fn whole(frame: u32) -> Requirement
         frame,
         part: Part::Whole,
     }
-}
-
-// Whether a frame may be judged with others.
-fn is_joined(frame: &FrameDef) -> bool
-    ensures { result ≡ is_joined (frame_of frame.now) }
-{
-    matches!(frame.kind, Kind::Position | Kind::Profile)
-        && !frame.datums.is_empty()
-        && !frame.separate
-}
-
-// Whether two frames are judged together: both may be, and they have the same datum words.
-fn joins(f: &FrameDef, g: &FrameDef) -> bool
-    ensures { result ≡ joins (frame_of f.now) (frame_of g.now) }
-{
-    is_joined(f)
-        && is_joined(g)
-        && f.datums.len() == g.datums.len()
-        && begin(f.datums.as_slice(), g.datums.as_slice())
-}
-
-// Whether words are the first ones of others, with their `(M)`.
-fn begin(first: &[DatumRef], words: &[DatumRef]) -> bool
-    ensures { result ≡ begin first.now words.now }
-{
-    match first {
-        [] => true,
-        [v, more @ ..] => match words {
-            [] => false,
-            [w, rest @ ..] => same_word(v, w) && begin(more, rest),
-        },
-    }
-}
-
-fn same_word(v: &DatumRef, w: &DatumRef) -> bool
-    ensures { result ≡ same_word v.now w.now }
-{
-    v.datum == w.datum && v.at_mmb == w.at_mmb
 }

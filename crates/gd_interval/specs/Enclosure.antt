@@ -1,5 +1,7 @@
--- What it means that an interval r holds the exact result at every pair of members: x / k of a, and y / j or y / k of b.
+-- What it means that an interval r holds the exact result at every pair of members: x / k of a, and y / j or y / k of
+-- b.
 use Rattle.std.specs.Prelude.{ℤ, ℕ, pos, ◌+ℤ◌, ◌-ℤ◌, ◌*ℤ◌, ◌≤ℤ◌, ◌*◌, ◌^◌}
+use Rattle.gd_base.specs.Scales.{ONE}
 use Rattle.gd_interval.specs.declared.iv.Iv.{Iv}
 use Rattle.gd_interval.specs.Interval.{Inside}
 
@@ -29,7 +31,7 @@ EnclosesSquare a r = (k : ℕ) (x : ℤ) → Holds a k x → Holds r (k * k) (x 
 
 -- 2^30 (x / k) / (w / j), which is 2^30 x j / (k w); every member of the divisor d is above 0
 abbrev pub EnclosesQuotient : Iv → Iv → Iv → Type 0
-EnclosesQuotient n d r = (k j w : ℕ) (x : ℤ) → Holds n k x → Holds d j (pos w) → Holds r (k * w) (x *ℤ pos (2 ^ 30 * j))
+EnclosesQuotient n d r = (k j w : ℕ) (x : ℤ) → Holds n k x → Holds d j (pos w) → Holds r (k * w) (x *ℤ pos (ONE * j))
 
 -- (x / k) / 2^bits
 abbrev pub EnclosesNarrowed : Iv → ℕ → Iv → Type 0

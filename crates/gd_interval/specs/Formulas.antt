@@ -1,6 +1,7 @@
 -- The ends of each result, from the ends a, b of the first interval and c, d of the second.
 use Rattle.std.specs.Prelude.{ℤ, ℕ, pos, ◌+ℤ◌, ◌-ℤ◌, ◌*ℤ◌, ◌≤ℤ◌, ◌<ℤ◌, ◌^◌, cond, int_le, ◌&&◌}
 use Rattle.std.specs.Int.{int_min, int_max}
+use Rattle.gd_base.specs.Scales.{ONE}
 use Rattle.gd_int.specs.Division.{floor_of, ceil_of}
 
 -- the lesser and the greater of both ends times k
@@ -27,10 +28,10 @@ square_hi a b = int_max (a *ℤ a) (b *ℤ b)
 
 -- 2^30 times an end n of the dividend, over the end of the divisor that moves the quotient outward, rounded outward
 abbrev pub quot_lo : ℤ → ℤ → ℤ → ℤ
-quot_lo n c d = floor_of (n *ℤ pos (2 ^ 30)) (cond (int_le (pos 0) n) d c)
+quot_lo n c d = floor_of (n *ℤ pos ONE) (cond (int_le (pos 0) n) d c)
 
 abbrev pub quot_hi : ℤ → ℤ → ℤ → ℤ
-quot_hi n c d = ceil_of (n *ℤ pos (2 ^ 30)) (cond (int_le (pos 0) n) c d)
+quot_hi n c d = ceil_of (n *ℤ pos ONE) (cond (int_le (pos 0) n) c d)
 
 -- an end over 2^k, rounded down and rounded up
 abbrev pub narrow_lo : ℤ → ℕ → ℤ

@@ -1,7 +1,12 @@
 -- An interval of whole numbers is known by its two ends, and holds every number between them.
-use Rattle.std.specs.Prelude.{ℤ, ℕ, pos, neg_ℤ, ◌*ℤ◌, ◌≤ℤ◌}
+use Rattle.std.specs.Prelude.{ℤ, ℕ, pos, neg_ℤ, ◌*ℤ◌, ◌≤ℤ◌, ◌^◌}
 
--- the fraction x / k lies between the ends lo and hi, where k is at least 1: said by products, so nothing is rounded here
+-- below this size a number of 128 bits leaves one bit for a sum and one for the sign
+abbrev pub ROOM : ℕ
+ROOM = 2 ^ 126
+
+-- the fraction x / k lies between the ends lo and hi, where k is at least 1: said by products, so nothing is rounded
+-- here
 abbrev pub Inside : ℤ → ℤ → ℕ → ℤ → Type 0
 Inside lo hi k x = ((lo *ℤ pos k) ≤ℤ x) × (x ≤ℤ (hi *ℤ pos k))
 

@@ -1,5 +1,6 @@
 -- How wide a result may be, where the arguments have their widths and sizes.
-use Rattle.std.specs.Prelude.{◌≡◌, ℤ, ℕ, pos, neg_ℤ, ◌+ℤ◌, ◌-ℤ◌, ◌*ℤ◌, ◌≤ℤ◌, ◌^◌, unsigned_abs}
+use Rattle.std.specs.Prelude.{◌≡◌, ℤ, ℕ, pos, neg_ℤ, ◌+ℤ◌, ◌-ℤ◌, ◌*ℤ◌, ◌≤ℤ◌, unsigned_abs}
+use Rattle.gd_base.specs.Scales.{ONE}
 use Rattle.gd_interval.specs.declared.iv.Iv.{Iv}
 use Rattle.gd_interval.specs.Interval.{IsWithin}
 
@@ -20,8 +21,8 @@ MultipleWidth a f r = width_of r ≡ pos (unsigned_abs f) *ℤ width_of a
 abbrev pub SquareWidth : Iv → Iv → Type 0
 SquareWidth a r = (m : ℤ) → IsWithin a.lo a.hi m → width_of r ≤ℤ ((pos 2 *ℤ m) *ℤ width_of a)
 
--- where g is at least every quotient n.lo / d.hi and -n.hi / d.hi, a quotient's width, less 2 for the rounding, is at most
--- 2^30 times (n's width and g times d's width together) over d.lo: said by products
+-- where g is at least every quotient n.lo / d.hi and -n.hi / d.hi, a quotient's width, less 2 for the rounding, is at
+-- most 2^30 times (n's width and g times d's width together) over d.lo: said by products
 abbrev pub QuotientWidth : Iv → Iv → Iv → Type 0
 QuotientWidth n d r = (g : ℕ) → n.lo ≤ℤ (pos g *ℤ d.hi) → neg_ℤ n.hi ≤ℤ (pos g *ℤ d.hi)
-    → ((width_of r -ℤ pos 2) *ℤ d.lo) ≤ℤ ((width_of n +ℤ pos g *ℤ width_of d) *ℤ pos (2 ^ 30))
+    → ((width_of r -ℤ pos 2) *ℤ d.lo) ≤ℤ ((width_of n +ℤ pos g *ℤ width_of d) *ℤ pos ONE)

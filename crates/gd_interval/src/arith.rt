@@ -1,6 +1,8 @@
-ghost use Rattle.std.specs.Prelude.{◌≡◌, ◌*◌, ◌<◌, ◌^◌, pos, ◌+ℤ◌, ◌-ℤ◌, unsigned_abs, cond, int_le, ◌&&◌};
-ghost use Rattle.gd_interval.specs.Enclosure.{EnclosesSum, EnclosesDifference, EnclosesMultiple, EnclosesProduct, EnclosesSquare};
+ghost use Rattle.std.specs.Prelude.{◌≡◌, ◌*◌, ◌<◌, pos, ◌+ℤ◌, ◌-ℤ◌, unsigned_abs, cond, int_le, ◌&&◌};
+ghost use Rattle.gd_interval.specs.Enclosure.{EnclosesSum, EnclosesDifference, EnclosesMultiple, EnclosesProduct};
+ghost use Rattle.gd_interval.specs.Enclosure.{EnclosesSquare};
 ghost use Rattle.gd_interval.specs.Formulas.{scale_lo, scale_hi, mul_lo, mul_hi, square_lo, square_hi};
+ghost use Rattle.gd_interval.specs.Interval.{ROOM};
 ghost use Rattle.gd_interval.specs.Widths.{MultipleWidth, ProductWidth, SquareWidth};
 
 use crate::ends::{greatest, greatest_of, least, least_of, minus, plus, times};
@@ -10,8 +12,8 @@ use crate::iv::{Iv, between};
 /// The sums of ends are below 2^126 in size.
 #[inline(always)]
 pub fn add(a: Iv, b: Iv) -> Iv
-    requires lo { unsigned_abs (a.lo +ℤ b.lo) < 2 ^ 126 }
-    requires hi { unsigned_abs (a.hi +ℤ b.hi) < 2 ^ 126 }
+    requires lo { unsigned_abs (a.lo +ℤ b.lo) < ROOM }
+    requires hi { unsigned_abs (a.hi +ℤ b.hi) < ROOM }
     ensures lo { result.lo ≡ a.lo +ℤ b.lo }
     ensures hi { result.hi ≡ a.hi +ℤ b.hi }
     ensures encloses { EnclosesSum a b result }
@@ -23,8 +25,8 @@ pub fn add(a: Iv, b: Iv) -> Iv
 /// The differences of opposite ends are below 2^126 in size.
 #[inline(always)]
 pub fn sub(a: Iv, b: Iv) -> Iv
-    requires lo { unsigned_abs (a.lo -ℤ b.hi) < 2 ^ 126 }
-    requires hi { unsigned_abs (a.hi -ℤ b.lo) < 2 ^ 126 }
+    requires lo { unsigned_abs (a.lo -ℤ b.hi) < ROOM }
+    requires hi { unsigned_abs (a.hi -ℤ b.lo) < ROOM }
     ensures lo { result.lo ≡ a.lo -ℤ b.hi }
     ensures hi { result.hi ≡ a.hi -ℤ b.lo }
     ensures encloses { EnclosesDifference a b result }
@@ -36,8 +38,8 @@ pub fn sub(a: Iv, b: Iv) -> Iv
 /// Both ends times `k` are below 2^126 in size.
 #[inline(always)]
 pub fn scale(a: Iv, k: i128) -> Iv
-    requires lo { unsigned_abs a.lo * unsigned_abs k < 2 ^ 126 }
-    requires hi { unsigned_abs a.hi * unsigned_abs k < 2 ^ 126 }
+    requires lo { unsigned_abs a.lo * unsigned_abs k < ROOM }
+    requires hi { unsigned_abs a.hi * unsigned_abs k < ROOM }
     ensures lo { result.lo ≡ scale_lo a.lo a.hi k }
     ensures hi { result.hi ≡ scale_hi a.lo a.hi k }
     ensures encloses { EnclosesMultiple a k result }
@@ -52,10 +54,10 @@ pub fn scale(a: Iv, k: i128) -> Iv
 /// The four products of ends are below 2^126 in size.
 #[inline(always)]
 pub fn mul(a: Iv, b: Iv) -> Iv
-    requires ac { unsigned_abs a.lo * unsigned_abs b.lo < 2 ^ 126 }
-    requires ad { unsigned_abs a.lo * unsigned_abs b.hi < 2 ^ 126 }
-    requires bc { unsigned_abs a.hi * unsigned_abs b.lo < 2 ^ 126 }
-    requires bd { unsigned_abs a.hi * unsigned_abs b.hi < 2 ^ 126 }
+    requires ac { unsigned_abs a.lo * unsigned_abs b.lo < ROOM }
+    requires ad { unsigned_abs a.lo * unsigned_abs b.hi < ROOM }
+    requires bc { unsigned_abs a.hi * unsigned_abs b.lo < ROOM }
+    requires bd { unsigned_abs a.hi * unsigned_abs b.hi < ROOM }
     ensures lo { result.lo ≡ mul_lo a.lo a.hi b.lo b.hi }
     ensures hi { result.hi ≡ mul_hi a.lo a.hi b.lo b.hi }
     ensures encloses { EnclosesProduct a b result }
@@ -72,8 +74,8 @@ pub fn mul(a: Iv, b: Iv) -> Iv
 /// The squares of both ends are below 2^126.
 #[inline(always)]
 pub fn square(a: Iv) -> Iv
-    requires lo { unsigned_abs a.lo * unsigned_abs a.lo < 2 ^ 126 }
-    requires hi { unsigned_abs a.hi * unsigned_abs a.hi < 2 ^ 126 }
+    requires lo { unsigned_abs a.lo * unsigned_abs a.lo < ROOM }
+    requires hi { unsigned_abs a.hi * unsigned_abs a.hi < ROOM }
     ensures lo { result.lo ≡ square_lo a.lo a.hi }
     ensures hi { result.hi ≡ square_hi a.lo a.hi }
     ensures encloses { EnclosesSquare a result }

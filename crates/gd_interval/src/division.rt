@@ -2,6 +2,7 @@ ghost use Rattle.std.specs.Prelude.{◌≡◌, ◌<◌, ◌≤◌, ◌^◌, pos,
 ghost use Rattle.gd_int.specs.Division.{floor_of, ceil_of};
 ghost use Rattle.gd_interval.specs.Enclosure.{EnclosesQuotient, EnclosesNarrowed};
 ghost use Rattle.gd_interval.specs.Formulas.{quot_lo, quot_hi, narrow_lo, narrow_hi};
+ghost use Rattle.gd_interval.specs.Interval.{ROOM};
 ghost use Rattle.gd_interval.specs.Widths.{QuotientWidth};
 
 use crate::ends::times;
@@ -46,7 +47,7 @@ fn by_sign(n: i128, yes: i128, no: i128) -> i128
 #[inline(always)]
 pub fn narrow(a: Iv, bits: u32) -> Iv
     requires bits { bits ≤ 60 }
-    requires hi { unsigned_abs a.hi < 2 ^ 126 }
+    requires hi { unsigned_abs a.hi < ROOM }
     ensures lo { result.lo ≡ narrow_lo a.lo bits }
     ensures hi { result.hi ≡ narrow_hi a.hi bits }
     ensures encloses { EnclosesNarrowed a bits result }
@@ -67,7 +68,7 @@ fn shifted(a: i128, bits: u32) -> i128
 #[inline(always)]
 fn shifted_up(a: i128, bits: u32) -> i128
     requires bits { bits ≤ 60 }
-    requires size { unsigned_abs a < 2 ^ 126 }
+    requires size { unsigned_abs a < ROOM }
     ensures { result ≡ ceil_of a (pos (2 ^ bits)) }
 {
     -shifted(-a, bits)

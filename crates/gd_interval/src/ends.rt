@@ -1,34 +1,35 @@
-ghost use Rattle.std.specs.Prelude.{◌≡◌, ◌*◌, ◌<◌, ◌^◌, ◌+ℤ◌, ◌-ℤ◌, ◌*ℤ◌, unsigned_abs};
+ghost use Rattle.std.specs.Prelude.{◌≡◌, ◌*◌, ◌<◌, ◌+ℤ◌, ◌-ℤ◌, ◌*ℤ◌, unsigned_abs};
 ghost use Rattle.std.specs.Int.{int_min, int_max};
+ghost use Rattle.gd_interval.specs.Interval.{ROOM};
 
 /// The sum of two ends.
 #[inline(always)]
 pub fn plus(a: i128, b: i128) -> i128
-    requires { unsigned_abs (a +ℤ b) < 2 ^ 126 }
+    requires { unsigned_abs (a +ℤ b) < ROOM }
     ensures { result ≡ a +ℤ b }
 {
     a + b
 }
 
-/// The difference of two ends.
+/// The difference of two numbers, where it is below 2^126 in size.
 #[inline(always)]
 pub fn minus(a: i128, b: i128) -> i128
-    requires { unsigned_abs (a -ℤ b) < 2 ^ 126 }
+    requires { unsigned_abs (a -ℤ b) < ROOM }
     ensures { result ≡ a -ℤ b }
 {
     a - b
 }
 
-/// The product of two ends.
+/// The product of two numbers, where it is below 2^126 in size.
 #[inline(always)]
 pub fn times(a: i128, b: i128) -> i128
-    requires { unsigned_abs a * unsigned_abs b < 2 ^ 126 }
+    requires { unsigned_abs a * unsigned_abs b < ROOM }
     ensures { result ≡ a *ℤ b }
 {
     a * b
 }
 
-/// The lesser of two ends.
+/// The lesser of two numbers.
 #[inline(always)]
 pub fn least(a: i128, b: i128) -> i128
     ensures { result ≡ int_min a b }
@@ -36,7 +37,7 @@ pub fn least(a: i128, b: i128) -> i128
     a.min(b)
 }
 
-/// The greater of two ends.
+/// The greater of two numbers.
 #[inline(always)]
 pub fn greatest(a: i128, b: i128) -> i128
     ensures { result ≡ int_max a b }

@@ -1,4 +1,5 @@
-ghost use Rattle.gd_interval.specs.Nests.{SumNests, DifferenceNests, MultipleNests, ProductNests, SquareNests, QuotientNests, NarrowedNests, RootNests};
+ghost use Rattle.gd_interval.specs.Nests.{SumNests, DifferenceNests, MultipleNests, ProductNests, SquareNests};
+ghost use Rattle.gd_interval.specs.Nests.{QuotientNests, NarrowedNests, RootNests};
 
 /// Smaller intervals give a result inside: the law of each call, over the ends that its contract names.
 /// It does nothing when it runs; a proof cites its clauses.

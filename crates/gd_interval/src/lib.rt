@@ -10,6 +10,7 @@ mod roots;
 
 pub use arith::{add, mul, scale, square, sub};
 pub use division::{narrow, quot};
+pub use ends::{greatest, least, minus, times};
 pub use iv::{Iv, between, point};
 pub use laws::results_nest;
-pub use roots::root;
+pub use roots::{root, root_above, root_below};

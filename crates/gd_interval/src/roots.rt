@@ -1,6 +1,7 @@
-ghost use Rattle.std.specs.Prelude.{◌<◌, ◌^◌, pos, ◌≤ℤ◌, unsigned_abs};
+ghost use Rattle.std.specs.Prelude.{◌<◌, pos, ◌≤ℤ◌, unsigned_abs};
 ghost use Rattle.gd_interval.specs.Enclosure.{EnclosesRoot};
 ghost use Rattle.gd_interval.specs.Formulas.{IsRootBelow, IsRootAbove};
+ghost use Rattle.gd_interval.specs.Interval.{ROOM};
 
 use crate::iv::{Iv, between};
 use gd_int::{isqrt_ceil, isqrt_floor};
@@ -10,7 +11,7 @@ use gd_int::{isqrt_ceil, isqrt_floor};
 #[inline]
 pub fn root(a: Iv) -> Iv
     requires lo { pos 0 ≤ℤ a.lo }
-    requires hi { unsigned_abs a.hi < 2 ^ 126 }
+    requires hi { unsigned_abs a.hi < ROOM }
     ensures lo { IsRootBelow result.lo a.lo }
     ensures hi { IsRootAbove result.hi a.hi }
     ensures encloses { EnclosesRoot a result }
@@ -18,20 +19,20 @@ pub fn root(a: Iv) -> Iv
     between(root_below(a.lo), root_above(a.hi))
 }
 
-/// The root, rounded down.
+/// The root of a number that isn't negative, rounded down.
 #[inline(always)]
-fn root_below(a: i128) -> i128
+pub fn root_below(a: i128) -> i128
     requires { pos 0 ≤ℤ a }
     ensures { IsRootBelow result a }
 {
     isqrt_floor(a as u128) as i128
 }
 
-/// The root, rounded up.
+/// The root of a number that isn't negative and is below 2^126, rounded up.
 #[inline(always)]
-fn root_above(a: i128) -> i128
+pub fn root_above(a: i128) -> i128
     requires sign { pos 0 ≤ℤ a }
-    requires size { unsigned_abs a < 2 ^ 126 }
+    requires size { unsigned_abs a < ROOM }
     ensures { IsRootAbove result a }
 {
     isqrt_ceil(a as u128) as i128

@@ -20,17 +20,20 @@ Agrees (verdict.StillOpen told) (Accept root at) = ⊥
 Agrees (verdict.StillOpen told) (Reject lines) = ⊥
 Agrees (verdict.StillOpen told) (Open counts lines) = told ≡ counts
 
--- a verdict means what it says: of an accept the written witness is in range and holds, and its assignment is feasible; of
--- a reject no assignment is; an open one is the verdict for the budget
-pub record IsMeant (q : Questions) (feasible : List ℤ → Type 0) (assignment : Witness → List ℤ) (budget : ℕ) (v : Verdict) (b : Body) : Type 0 where
+-- a verdict means what it says: of an accept the written witness is in range and holds, and its assignment is feasible;
+-- of a reject no assignment is; an open one is the verdict for the budget
+pub record IsMeant (q : Questions) (feasible : List ℤ → Type 0) (assignment : Witness → List ℤ) (budget : ℕ)
+    (v : Verdict) (b : Body) : Type 0 where
   pub agrees : Agrees v b
   pub right : IsRightBody q budget b
   pub true : IsTrueOf q feasible assignment budget b
 
 -- each verdict means what it says of its task
-abbrev pub AreMeant : {T : Type 0} → (T → Questions) → (T → List ℤ → Type 0) → (T → Witness → List ℤ) → List T → ℕ → List Verdict → List Body → Type 0
+abbrev pub AreMeant : {T : Type 0} → (T → Questions) → (T → List ℤ → Type 0) → (T → Witness → List ℤ) → List T → ℕ
+    → List Verdict → List Body → Type 0
 AreMeant questions feasible assignment [] budget vs bs = (vs ≡ []) × (bs ≡ [])
 AreMeant questions feasible assignment (t ∷ ts) budget [] bs = ⊥
 AreMeant questions feasible assignment (t ∷ ts) budget (v ∷ vs) [] = ⊥
 AreMeant questions feasible assignment (t ∷ ts) budget (v ∷ vs) (b ∷ bs) =
-    IsMeant (questions t) (feasible t) (assignment t) budget v b × AreMeant questions feasible assignment ts budget vs bs
+    IsMeant (questions t) (feasible t) (assignment t) budget v b
+    × AreMeant questions feasible assignment ts budget vs bs

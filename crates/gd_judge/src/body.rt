@@ -22,8 +22,8 @@ fn numbers_of<T: Task>(alloc: Global, task: &T, witness: &Witness) -> Result<Vec
     Ok(Vec::from_slice(alloc, &witness.at[..numbers])?)
 }
 
-/// The body of a group in a certificate, for how the search of its task ended. Of a witness it has the numbers that the task
-/// has.
+/// The body of a group in a certificate, for how the search of its task ended. Of a witness it has the numbers that the
+/// task has.
 pub fn body_of_outcome<T: Task>(
     alloc: Global,
     task: &T,

@@ -98,9 +98,10 @@ fn judge_each<R: Threads + Sync, T: Task>(
 
 /// Judges some tasks, each for the same share of the budget, which is rounded down and may be 0.
 ///
-/// There is a task at least, and no more than a certificate states; each has two numbers in a witness or more. `verdicts`
-/// says that each verdict is the task's own at the share, and that the certificate's groups show them; `right` and `fits`
-/// that the certificate is right and can be written and read; `means` what the verdicts say of the tasks' assignments.
+/// There is a task at least, and no more than a certificate states; each has two numbers in a witness or more.
+/// `verdicts` says that each verdict is the task's own at the share, and that the certificate's groups show them;
+/// `right` and `fits` that the certificate is right and can be written and read; `means` what the verdicts say of the
+/// tasks' assignments.
 pub fn judge_tasks<R: Threads + Sync, T: Task>(
     rt: &R,
     alloc: Global,

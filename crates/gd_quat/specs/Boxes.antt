@@ -1,5 +1,6 @@
 -- Boxes of rotations, matrices and vectors, and what it means that a box holds an exact one.
 use Rattle.std.specs.Prelude.{ℕ, ℤ, pos, ◌≡◌, ◌*◌, ◌^◌, ◌≤◌, ◌<◌, ◌⊎◌, ◌-ℤ◌, ◌*ℤ◌, ◌≤ℤ◌, unsigned_abs}
+use Rattle.gd_base.specs.Scales.{FINE, ONE}
 use Rattle.gd_interval.specs.Interval.{Inside}
 use Rattle.gd_interval.specs.declared.iv.Iv.{Iv}
 use Rattle.gd_quat.specs.Placements.{IsPlacement, Placement, denominator_of, image_of, plus, times}
@@ -9,6 +10,23 @@ use Rattle.gd_quat.specs.declared.shape.RotationBox.{RotationBox}
 use Rattle.gd_quat.specs.declared.shape.VecBox.{VecBox}
 use Rattle.gd_vec.specs.Vector.{norm_sum_of}
 use Rattle.gd_vec.specs.declared.vector.V3.{V3}
+
+-- ---- sizes
+-- how large an entry of a rotation's matrix is at most, in 2^-30
+abbrev pub ENTRY_SIZE : ℕ
+ENTRY_SIZE = 2 ^ 32
+
+-- how large an entry of a matrix that turns a vector may be, in 2^-30
+abbrev pub MATRIX_SIZE : ℕ
+MATRIX_SIZE = 2 ^ 34
+
+-- how large an entry of the vector may be, in units
+abbrev pub VECTOR_SIZE : ℕ
+VECTOR_SIZE = 2 ^ 40
+
+-- how large an entry of an image and of a translation may be that are added, in fine units
+abbrev pub IMAGE_SIZE : ℕ
+IMAGE_SIZE = 2 ^ 64
 
 -- no end is larger than this size
 pub record Fits (size : ℕ) (a : Iv) : Type 0 where
@@ -27,14 +45,14 @@ pub record MatrixFits (size : ℕ) (b : MatrixBox) : Type 0 where
 
 -- an interval that holds 1 alone, in 2^-30
 abbrev pub IsOne : Iv → Type 0
-IsOne a = (a.lo ≡ pos (2 ^ 30)) × (a.hi ≡ pos (2 ^ 30))
+IsOne a = (a.lo ≡ pos ONE) × (a.hi ≡ pos ONE)
 
 -- one component is 1, and none is larger, in 2^-30
 pub record IsRotationBox (b : RotationBox) : Type 0 where
-  pub q0 : Fits (2 ^ 30) b.q0
-  pub q1 : Fits (2 ^ 30) b.q1
-  pub q2 : Fits (2 ^ 30) b.q2
-  pub q3 : Fits (2 ^ 30) b.q3
+  pub q0 : Fits ONE b.q0
+  pub q1 : Fits ONE b.q1
+  pub q2 : Fits ONE b.q2
+  pub q3 : Fits ONE b.q3
   pub leads : IsOne b.q0 ⊎ (IsOne b.q1 ⊎ (IsOne b.q2 ⊎ IsOne b.q3))
 
 -- a box of vectors holds the fraction v / k
@@ -65,7 +83,8 @@ matrix_times f m = record { x = times f m.x; y = times f m.y; z = times f m.z }
 
 -- the box m holds the matrix, in 2^-30, of every rotation that the box b holds
 abbrev pub EnclosesMatrix : RotationBox → MatrixBox → Type 0
-EnclosesMatrix b m = (q : Rotation) → IsRotation q → HoldsRotation b q → HoldsMatrix m (norm_of q) (matrix_times (pos (2 ^ 30)) (matrix_of q))
+EnclosesMatrix b m = (q : Rotation) → IsRotation q → HoldsRotation b q
+    → HoldsMatrix m (norm_of q) (matrix_times (pos ONE) (matrix_of q))
 
 -- the box r holds e v / 2^14 for every matrix e that the box m holds: entries in 2^-30 become fine units of 2^-16 unit
 abbrev pub EnclosesTurned : MatrixBox → V3 → VecBox → Type 0
@@ -77,11 +96,13 @@ EnclosesMoved a b r = (k : ℕ) (v w : V3) → HoldsVector a k v → HoldsVector
 
 -- the box r holds, in fine units, the exact image of the point at v under a placement
 abbrev pub HoldsImage : VecBox → Placement → V3 → Type 0
-HoldsImage r p v = HoldsVector r (denominator_of p) (times (pos (2 ^ 16)) (image_of p v))
+HoldsImage r p v = HoldsVector r (denominator_of p) (times (pos FINE) (image_of p v))
 
 -- the box of images holds the image at every placement that the boxes of the rotation and the translation hold
 abbrev pub EnclosesImages : RotationBox → VecBox → V3 → VecBox → Type 0
-EnclosesImages b t v r = (p : Placement) → IsPlacement p → HoldsRotation b p.turn → HoldsVector t p.scale (times (pos (2 ^ 16)) p.shift) → HoldsImage r p v
+EnclosesImages b t v r =
+    (p : Placement) → IsPlacement p → HoldsRotation b p.turn → HoldsVector t p.scale (times (pos FINE) p.shift)
+    → HoldsImage r p v
 
 -- ---- widths
 abbrev pub width_of : Iv → ℤ
@@ -104,7 +125,8 @@ pub record MatrixWidth (w : ℕ) (b : MatrixBox) : Type 0 where
   pub y : VectorWidth w b.y
   pub z : VectorWidth w b.z
 
--- where the entries of a matrix are at most w wide, a turned vector's entry, less 2 for the rounding, is at most as wide as w times the sum of v's sizes over 2^14
+-- where the entries of a matrix are at most w wide, a turned vector's entry, less 2 for the rounding, is at most as
+-- wide as w times the sum of v's sizes over 2^14
 pub record TurnedWidth (w : ℕ) (v : V3) (r : VecBox) : Type 0 where
   pub x : ((width_of r.x -ℤ pos 2) *ℤ pos (2 ^ 14)) ≤ℤ (pos w *ℤ norm_sum_of v)
   pub y : ((width_of r.y -ℤ pos 2) *ℤ pos (2 ^ 14)) ≤ℤ (pos w *ℤ norm_sum_of v)

@@ -1,6 +1,7 @@
 -- The ends of the entries of matrices and images, from the ends of the boxes that they are made of.
 use Rattle.std.specs.Prelude.{ℕ, ℤ, pos, ◌+ℤ◌, ◌-ℤ◌}
-use Rattle.gd_interval.specs.Formulas.{scale_lo, scale_hi, mul_lo, mul_hi, square_lo, square_hi, quot_lo, quot_hi, narrow_lo, narrow_hi}
+use Rattle.gd_interval.specs.Formulas.{scale_lo, scale_hi, mul_lo, mul_hi, square_lo, square_hi, quot_lo, quot_hi}
+use Rattle.gd_interval.specs.Formulas.{narrow_lo, narrow_hi}
 use Rattle.gd_interval.specs.declared.iv.Iv.{Iv}
 use Rattle.gd_quat.specs.Placements.{rotation_at}
 use Rattle.gd_quat.specs.declared.shape.Assignment.{Assignment}

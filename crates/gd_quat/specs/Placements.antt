@@ -1,6 +1,7 @@
 -- Placements of a part: a rotation about its first point and a translation, with one whole denominator, and up to two
 -- offsets of features.
-use Rattle.std.specs.Prelude.{ℕ, ℤ, pos, ◌*◌, ◌^◌, ◌≤◌, ◌+ℤ◌, ◌*ℤ◌, ◌==◌, unsigned_abs, if◌then◌else◌}
+use Rattle.std.specs.Prelude.{ℕ, ℤ, pos, ◌*◌, ◌≤◌, ◌+ℤ◌, ◌*ℤ◌, ◌==◌, unsigned_abs, if◌then◌else◌}
+use Rattle.gd_base.specs.Scales.{FINE, ONE}
 use Rattle.gd_quat.specs.Rotations.{Rotation, IsRotation, applied, matrix_of, norm_of}
 use Rattle.gd_quat.specs.declared.shape.Assignment.{Assignment}
 use Rattle.gd_quat.specs.declared.shape.Ratios.{Ratios}
@@ -48,16 +49,16 @@ image_under p number v = plus (image_of p v) (times (pos (norm_of p.turn)) (offs
 -- the rotation whose leading component is 1, with the three others in ascending order, all in 2^-30
 abbrev pub rotation_at : ℕ → Ratios → Rotation
 rotation_at face r =
-    if face == 0 then record { q0 = pos (2 ^ 30); q1 = r.first; q2 = r.second; q3 = r.third }
-    else (if face == 1 then record { q0 = r.first; q1 = pos (2 ^ 30); q2 = r.second; q3 = r.third }
-    else (if face == 2 then record { q0 = r.first; q1 = r.second; q2 = pos (2 ^ 30); q3 = r.third }
-    else record { q0 = r.first; q1 = r.second; q2 = r.third; q3 = pos (2 ^ 30) }))
+    if face == 0 then record { q0 = pos ONE; q1 = r.first; q2 = r.second; q3 = r.third }
+    else (if face == 1 then record { q0 = r.first; q1 = pos ONE; q2 = r.second; q3 = r.third }
+    else (if face == 2 then record { q0 = r.first; q1 = r.second; q2 = pos ONE; q3 = r.third }
+    else record { q0 = r.first; q1 = r.second; q2 = r.third; q3 = pos ONE }))
 
 -- the placement on the grid that an assignment stands for
 abbrev pub placement_of : Assignment → Placement
 placement_of a = record {
   turn = rotation_at a.face a.ratios;
-  scale = 2 ^ 16;
+  scale = FINE;
   shift = a.shift;
   first = a.first;
   second
@@ -67,6 +68,6 @@ placement_of a = record {
 -- the leading component is one of four, and no other is larger
 pub record IsOnGrid (a : Assignment) : Type 0 where
   pub face : a.face ≤ 3
-  pub first : unsigned_abs a.ratios.first ≤ 2 ^ 30
-  pub second : unsigned_abs a.ratios.second ≤ 2 ^ 30
-  pub third : unsigned_abs a.ratios.third ≤ 2 ^ 30
+  pub first : unsigned_abs a.ratios.first ≤ ONE
+  pub second : unsigned_abs a.ratios.second ≤ ONE
+  pub third : unsigned_abs a.ratios.third ≤ ONE

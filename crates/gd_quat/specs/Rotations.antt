@@ -1,4 +1,5 @@
--- Rotations of space by four whole numbers: the matrix of a rotation has whole numerators over the sum of their squares.
+-- Rotations of space by four whole numbers: the matrix of a rotation has whole numerators over the sum of their
+-- squares.
 use Rattle.std.specs.Prelude.{ℕ, ℤ, pos, ◌+◌, ◌*◌, ◌<◌, ◌+ℤ◌, ◌-ℤ◌, ◌*ℤ◌, unsigned_abs}
 use Rattle.gd_vec.specs.Vector.{dot_of}
 use Rattle.gd_vec.specs.declared.vector.V3.{V3}
@@ -12,7 +13,9 @@ pub record Rotation : Type 0 where
 
 -- the sum of their squares
 abbrev pub norm_of : Rotation → ℕ
-norm_of q = unsigned_abs q.q0 * unsigned_abs q.q0 + unsigned_abs q.q1 * unsigned_abs q.q1 + unsigned_abs q.q2 * unsigned_abs q.q2 + unsigned_abs q.q3 * unsigned_abs q.q3
+norm_of q =
+    unsigned_abs q.q0 * unsigned_abs q.q0 + unsigned_abs q.q1 * unsigned_abs q.q1
+    + unsigned_abs q.q2 * unsigned_abs q.q2 + unsigned_abs q.q3 * unsigned_abs q.q3
 
 -- not all of them are 0
 abbrev pub IsRotation : Rotation → Type 0

@@ -1,6 +1,7 @@
 // The sums, products and quotients that the entries of a matrix are made of.
 ghost use Rattle.std.specs.Prelude.{◌≡◌, ◌^◌, ◌≤ℤ◌, pos};
-ghost use Rattle.gd_quat.specs.Boxes.{Fits};
+ghost use Rattle.gd_base.specs.Scales.{ONE};
+ghost use Rattle.gd_quat.specs.Boxes.{ENTRY_SIZE, Fits};
 ghost use Rattle.gd_quat.specs.Formulas.{balance, difference, ends, multiple, product, quotient, square, sum, total};
 
 use gd_interval::{Iv, add, mul, quot, scale, sub};
@@ -8,7 +9,7 @@ use gd_interval::{Iv, add, mul, quot, scale, sub};
 /// The square of a component, in 2^-60.
 #[inline]
 pub fn squared(a: Iv) -> Iv
-    requires { Fits (2 ^ 30) a }
+    requires { Fits ONE a }
     ensures ends { ends result ≡ square (ends a) }
     ensures size { Fits (2 ^ 60) result }
 {
@@ -18,8 +19,8 @@ pub fn squared(a: Iv) -> Iv
 /// The product of two components, in 2^-60.
 #[inline]
 pub fn multiplied(a: Iv, b: Iv) -> Iv
-    requires a { Fits (2 ^ 30) a }
-    requires b { Fits (2 ^ 30) b }
+    requires a { Fits ONE a }
+    requires b { Fits ONE b }
     ensures ends { ends result ≡ product (ends a) (ends b) }
     ensures size { Fits (2 ^ 60) result }
 {
@@ -90,7 +91,7 @@ pub fn entry(numerator: Iv, norm: Iv) -> Iv
     requires numerator { Fits (2 ^ 62) numerator }
     requires norm { pos (2 ^ 60) ≤ℤ norm.lo }
     ensures ends { ends result ≡ quotient (ends numerator) (ends norm) }
-    ensures size { Fits (2 ^ 32) result }
+    ensures size { Fits ENTRY_SIZE result }
 {
     quot(numerator, norm)
 }

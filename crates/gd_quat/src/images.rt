@@ -1,7 +1,9 @@
 // Where the points of a part go.
 ghost use Rattle.std.specs.Prelude.{◌≡◌, ◌+◌, ◌*◌, ◌^◌, ◌≤◌, ℕ, unsigned_abs};
+ghost use Rattle.gd_base.specs.Scales.{ONE};
 ghost use Rattle.gd_quat.specs.Boxes.{EnclosesMoved, EnclosesTurned, Fits, HoldsImage, HoldsVector, HoldsRotation};
 ghost use Rattle.gd_quat.specs.Boxes.{IsRotationBox, MatrixFits, MatrixWidth, TurnedWidth, VectorFits};
+ghost use Rattle.gd_quat.specs.Boxes.{ENTRY_SIZE, IMAGE_SIZE, MATRIX_SIZE, VECTOR_SIZE};
 ghost use Rattle.gd_quat.specs.Formulas.{alone, ends, grid_ends, grid_image_formula, matrix_ends, moved_formula};
 ghost use Rattle.gd_quat.specs.Formulas.{multiple, point_ends, rotation_ends, row_formula, row_sum_formula, sum};
 ghost use Rattle.gd_quat.specs.Formulas.{turned_formula, vector_ends};
@@ -10,17 +12,15 @@ ghost use Rattle.gd_vec.specs.Vector.{IsWithin};
 
 use crate::matrices::matrix;
 use crate::shape::{Assignment, MatrixBox, RotationBox, VecBox};
+use gd_base::scales;
 use gd_interval::{Iv, add, narrow, point, scale};
 use gd_vec::V3;
-
-// 1 as a ratio. Ratios are in 2^-30.
-const ONE: i128 = 1 << 30;
 
 /// The boxes of both, added entry by entry, in the unit of both: images in fine units and a translation or an offset.
 #[inline]
 pub fn moved(a: &VecBox, by: &VecBox) -> VecBox
-    requires a { VectorFits (2 ^ 64) a.now }
-    requires by { VectorFits (2 ^ 64) by.now }
+    requires a { VectorFits IMAGE_SIZE a.now }
+    requires by { VectorFits IMAGE_SIZE by.now }
     ensures ends { vector_ends result ≡ moved_formula (vector_ends a.now) (vector_ends by.now) }
     ensures encloses { EnclosesMoved a.now by.now result }
 {
@@ -30,8 +30,8 @@ pub fn moved(a: &VecBox, by: &VecBox) -> VecBox
 // The sums, entry by entry.
 #[inline]
 fn shifted(a: &VecBox, by: &VecBox) -> VecBox
-    requires a { VectorFits (2 ^ 64) a.now }
-    requires by { VectorFits (2 ^ 64) by.now }
+    requires a { VectorFits IMAGE_SIZE a.now }
+    requires by { VectorFits IMAGE_SIZE by.now }
     ensures { vector_ends result ≡ moved_formula (vector_ends a.now) (vector_ends by.now) }
 {
     VecBox {
@@ -44,8 +44,8 @@ fn shifted(a: &VecBox, by: &VecBox) -> VecBox
 // The sum of two entries.
 #[inline]
 fn entry_sum(a: Iv, b: Iv) -> Iv
-    requires a { Fits (2 ^ 64) a }
-    requires b { Fits (2 ^ 64) b }
+    requires a { Fits IMAGE_SIZE a }
+    requires b { Fits IMAGE_SIZE b }
     ensures { ends result ≡ sum (ends a) (ends b) }
 {
     add(a, b)
@@ -55,7 +55,7 @@ fn entry_sum(a: Iv, b: Iv) -> Iv
 /// the part's first point, in units. Offsets of features are left out.
 pub fn image_box(a: &Assignment, v: &V3) -> VecBox
     requires a { IsOnGrid a.now }
-    requires v { IsWithin (2 ^ 40) v.now }
+    requires v { IsWithin VECTOR_SIZE v.now }
     ensures ends { vector_ends result ≡ grid_image_formula a.now v.now }
     ensures encloses { HoldsImage result (placement_of a.now) v.now }
 {
@@ -100,13 +100,13 @@ fn coordinate(z: i64) -> Iv
 /// The products of a row are added exactly, and the sum loses 14 bits, outward.
 #[inline]
 pub fn turned(m: &MatrixBox, v: &V3) -> VecBox
-    requires m { MatrixFits (2 ^ 34) m.now }
-    requires v { IsWithin (2 ^ 40) v.now }
+    requires m { MatrixFits MATRIX_SIZE m.now }
+    requires v { IsWithin VECTOR_SIZE v.now }
     ensures ends { vector_ends result ≡ turned_formula (matrix_ends m.now) v.now }
     ensures size { VectorFits (2 ^ 62) result }
     ensures encloses { EnclosesTurned m.now v.now result }
     ensures width { (w : ℕ) → MatrixWidth w m.now → TurnedWidth w v.now result }
-    ensures small { (n : ℕ) → MatrixFits (2 ^ 32) m.now → IsWithin n v.now → VectorFits (3 * 2 ^ 18 * n) result }
+    ensures small { (n : ℕ) → MatrixFits ENTRY_SIZE m.now → IsWithin n v.now → VectorFits (3 * 2 ^ 18 * n) result }
 {
     rows(m, v)
 }
@@ -114,8 +114,8 @@ pub fn turned(m: &MatrixBox, v: &V3) -> VecBox
 // The three rows times the vector.
 #[inline]
 fn rows(m: &MatrixBox, v: &V3) -> VecBox
-    requires m { MatrixFits (2 ^ 34) m.now }
-    requires v { IsWithin (2 ^ 40) v.now }
+    requires m { MatrixFits MATRIX_SIZE m.now }
+    requires v { IsWithin VECTOR_SIZE v.now }
     ensures ends { vector_ends result ≡ turned_formula (matrix_ends m.now) v.now }
     ensures size { VectorFits (2 ^ 62) result }
 {
@@ -129,8 +129,8 @@ fn rows(m: &MatrixBox, v: &V3) -> VecBox
 // One row times the vector.
 #[inline]
 fn row(m: &VecBox, v: &V3) -> Iv
-    requires m { VectorFits (2 ^ 34) m.now }
-    requires v { IsWithin (2 ^ 40) v.now }
+    requires m { VectorFits MATRIX_SIZE m.now }
+    requires v { IsWithin VECTOR_SIZE v.now }
     ensures ends { ends result ≡ row_formula (vector_ends m.now) v.now }
     ensures size { Fits (2 ^ 62) result }
 {
@@ -140,8 +140,8 @@ fn row(m: &VecBox, v: &V3) -> Iv
 // The sum of the products of a row and the vector.
 #[inline]
 fn row_sum(m: &VecBox, v: &V3) -> Iv
-    requires m { VectorFits (2 ^ 34) m.now }
-    requires v { IsWithin (2 ^ 40) v.now }
+    requires m { VectorFits MATRIX_SIZE m.now }
+    requires v { IsWithin VECTOR_SIZE v.now }
     ensures ends { ends result ≡ row_sum_formula (vector_ends m.now) v.now }
     ensures size { Fits (3 * 2 ^ 74) result }
 {
@@ -151,8 +151,8 @@ fn row_sum(m: &VecBox, v: &V3) -> Iv
 // The product of an entry and a coordinate.
 #[inline]
 fn scaled(a: Iv, factor: i64) -> Iv
-    requires a { Fits (2 ^ 34) a }
-    requires factor { unsigned_abs factor ≤ 2 ^ 40 }
+    requires a { Fits MATRIX_SIZE a }
+    requires factor { unsigned_abs factor ≤ VECTOR_SIZE }
     ensures ends { ends result ≡ multiple (ends a) factor }
     ensures size { Fits (2 ^ 74) result }
 {
@@ -162,9 +162,9 @@ fn scaled(a: Iv, factor: i64) -> Iv
 // One number alone.
 #[inline]
 fn ratio(z: i64) -> Iv
-    requires { unsigned_abs z ≤ 2 ^ 30 }
+    requires { unsigned_abs z ≤ ONE }
     ensures ends { ends result ≡ alone z }
-    ensures size { Fits (2 ^ 30) result }
+    ensures size { Fits ONE result }
 {
     coordinate(z)
 }
@@ -176,7 +176,7 @@ fn box_at(a: &Assignment) -> RotationBox
     ensures ends { rotation_ends result ≡ grid_ends a.now.face a.now.ratios }
     ensures fits { IsRotationBox result }
 {
-    let one = point(ONE);
+    let one = point(i128::from(scales::ONE));
     let (first, second, third) = (
         ratio(a.ratios.first),
         ratio(a.ratios.second),

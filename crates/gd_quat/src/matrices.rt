@@ -1,6 +1,7 @@
 // The matrix of a box of rotations.
 ghost use Rattle.std.specs.Prelude.{◌≡◌, ◌+◌, ◌*◌, ◌^◌, ◌≤ℤ◌, ℕ, pos};
 ghost use Rattle.gd_quat.specs.Boxes.{EnclosesMatrix, Fits, IsNarrow, IsRotationBox, MatrixFits, MatrixWidth};
+ghost use Rattle.gd_quat.specs.Boxes.{ENTRY_SIZE};
 ghost use Rattle.gd_quat.specs.Formulas.{ends, matrix_ends, matrix_formula, norm_ends, rotation_ends};
 
 use crate::entries::{
@@ -15,7 +16,7 @@ use gd_interval::Iv;
 pub fn matrix(q: &RotationBox) -> MatrixBox
     requires { IsRotationBox q.now }
     ensures ends { matrix_ends result ≡ matrix_formula (rotation_ends q.now) }
-    ensures size { MatrixFits (2 ^ 32) result }
+    ensures size { MatrixFits ENTRY_SIZE result }
     ensures encloses { EnclosesMatrix q.now result }
     ensures width { (w : ℕ) → IsNarrow w q.now → MatrixWidth (12 * w + 2) result }
 {
@@ -27,7 +28,7 @@ pub fn matrix(q: &RotationBox) -> MatrixBox
 fn entries(q: &RotationBox) -> MatrixBox
     requires { IsRotationBox q.now }
     ensures ends { matrix_ends result ≡ matrix_formula (rotation_ends q.now) }
-    ensures size { MatrixFits (2 ^ 32) result }
+    ensures size { MatrixFits ENTRY_SIZE result }
 {
     let norm = norm(q);
     let (s0, s1, s2, s3) = (squared(q.q0), squared(q.q1), squared(q.q2), squared(q.q3));

@@ -1,5 +1,6 @@
 -- The laws of the task of tests.
-use Rattle.std.proofs.Common.{arith, ◌≡◌, ◌≤◌, ◌&&◌, int_le, slice_index_or, refl, subst, ◌^◌, ◌<◌, unsigned_abs, ℕ, Bool, true, false, cond, Some, None, ℤ, pos, replicate, inl}
+use Rattle.std.proofs.Common.{arith, ◌≡◌, ◌≤◌, ◌&&◌, int_le, slice_index_or, refl, subst, ◌^◌, ◌<◌, unsigned_abs, ℕ}
+use Rattle.std.proofs.Common.{Bool, true, false, cond, Some, None, ℤ, pos, replicate, inl}
 use Rattle.std.proofs.lemmas.List.Elements.{All-cons, All-replicate}
 use Rattle.std.specs.List.{All}
 use Rattle.gd_cells.proofs.Cells.{halvings_few}
@@ -8,7 +9,8 @@ use Rattle.gd_cells.specs.Laws.{CentreNamesPlace, FirstIsShort, FirstRefutes, Is
 use Rattle.gd_cells.specs.declared.cell.Cell.{Cell}
 use Rattle.gd_toys.specs.Toys.{centre_of, ends, evidence_of, feasible_of, inside_all, toy}
 
-pub toy_grid : (shows : Bool) (depth : ℕ) (least : ℤ) (finest : ℕ) → finest ≤ 60 → IsGrid (toy shows depth least finest).grid
+pub toy_grid : (shows : Bool) (depth : ℕ) (least : ℤ) (finest : ℕ) → finest ≤ 60
+    → IsGrid (toy shows depth least finest).grid
 toy_grid shows depth least finest few = record {
   some_roots = omega arith;
   few_roots = omega arith;
@@ -24,12 +26,14 @@ toy_grid shows depth least finest few = record {
 first_refutes : (shows : Bool) (depth : ℕ) (least : ℤ) (finest : ℕ) → FirstRefutes (toy shows depth least finest)
 first_refutes true depth least finest c e cell h = cc
 first_refutes false depth least finest c e cell h =
-    elim (ends depth c) as (λ v. cond v (Some (evidence_of c)) None ≡ Some e → v ≡ true) [ true ↦ λ f. refl | false ↦ λ f. cc ] h
+    elim (ends depth c) as (λ v. cond v (Some (evidence_of c)) None ≡ Some e → v ≡ true)
+    [ true ↦ λ f. refl | false ↦ λ f. cc ] h
 
 none_refutes : (shows : Bool) (depth : ℕ) (least : ℤ) (finest : ℕ) → NoneRefutes (toy shows depth least finest)
 none_refutes true depth least finest c e cell h = refl
 none_refutes false depth least finest c e cell h =
-    elim (ends depth c) as (λ v. cond v (Some (evidence_of c)) None ≡ None → v ≡ false) [ true ↦ λ f. cc | false ↦ λ f. refl ] h
+    elim (ends depth c) as (λ v. cond v (Some (evidence_of c)) None ≡ None → v ≡ false)
+    [ true ↦ λ f. cc | false ↦ λ f. refl ] h
 
 -- ---- the numbers of a cell
 root_is_first : (g : Grid) (c : Cell) → IsCell g c → 1 ≤ c.root
@@ -56,9 +60,11 @@ abbrev is_small : ℤ → Type 0
 is_small x = unsigned_abs x < 2 ^ 62
 
 sizes_of : (c : Cell) → c.level ≤ 60 → All is_small (centre_of c).at
-sizes_of c few = All-cons is_small (pos c.level) (replicate 11 (pos 0)) (omega arith) (All-replicate is_small 11 (pos 0) (omega arith))
+sizes_of c few = All-cons is_small (pos c.level) (replicate 11 (pos 0)) (omega arith)
+    (All-replicate is_small 11 (pos 0) (omega arith))
 
-centre_names_place : (shows : Bool) (depth : ℕ) (least : ℤ) (finest : ℕ) → finest ≤ 60 → CentreNamesPlace (toy shows depth least finest)
+centre_names_place : (shows : Bool) (depth : ℕ) (least : ℤ) (finest : ℕ) → finest ≤ 60
+    → CentreNamesPlace (toy shows depth least finest)
 centre_names_place shows depth least finest few c cell =
     let low : c.level ≤ finest = level_is_low (toy shows depth least finest).grid c cell in
     record {
@@ -70,7 +76,8 @@ centre_names_place shows depth least finest few c cell =
     }
 
 -- ---- all of them. Where it shows, nothing is refuted, and else nothing holds
-pub toy_laws : (shows : Bool) (depth : ℕ) (least : ℤ) (finest : ℕ) → finest ≤ 60 → Laws (toy shows depth least finest) (feasible_of shows) inside_all (λ w. w.at)
+pub toy_laws : (shows : Bool) (depth : ℕ) (least : ℤ) (finest : ℕ) → finest ≤ 60
+    → Laws (toy shows depth least finest) (feasible_of shows) inside_all (λ w. w.at)
 toy_laws shows depth least finest few = record {
   is_grid = toy_grid shows depth least finest few;
   roots_cover = λ a can. record { root = 1; first = omega arith; last = omega arith; lies_inside = tt };
@@ -78,8 +85,11 @@ toy_laws shows depth least finest few = record {
   first_refutes = first_refutes shows depth least finest;
   none_refutes = none_refutes shows depth least finest;
   first_is_short = first_is_short shows depth least finest;
-  refuted_is_empty = λ c e a cell is lies can. elim shows as (λ v. cond v false (ends depth c) ≡ true → v ≡ true → ⊥) [ true ↦ λ i j. cc | false ↦ λ i j. cc ] is can;
+  refuted_is_empty = λ c e a cell is lies can. elim shows as (λ v. cond v false (ends depth c) ≡ true → v ≡ true → ⊥)
+      [ true ↦ λ i j. cc | false ↦ λ i j. cc ] is can;
   centre_in_range = λ c cell. refl;
-  holds_is_feasible = λ w ranges meets. elim shows as (λ v. v && int_le least (slice_index_or w.at 0 (pos 0)) ≡ true → v ≡ true) [ true ↦ λ m. refl | false ↦ λ m. cc ] meets;
+  holds_is_feasible = λ w ranges meets. elim shows as
+      (λ v. v && int_le least (slice_index_or w.at 0 (pos 0)) ≡ true → v ≡ true)
+      [ true ↦ λ m. refl | false ↦ λ m. cc ] meets;
   centre_names_place = centre_names_place shows depth least finest few;
 }

@@ -1,5 +1,6 @@
 -- A small task for tests: two roots and one coordinate, and a witness of two numbers.
-use Rattle.std.specs.Prelude.{ℕ, Bool, true, false, ◌&&◌, ◌||◌, ◌≡◌, cond, Some, None, nat_le, nat_eq, int_le, ℤ, pos, List, [], ◌∷◌, slice_index_or}
+use Rattle.std.specs.Prelude.{ℕ, Bool, true, false, ◌&&◌, ◌||◌, ◌≡◌, cond, Some, None, nat_le, nat_eq, int_le, ℤ, pos}
+use Rattle.std.specs.Prelude.{List, [], ◌∷◌, slice_index_or}
 use Rattle.gd_cells.specs.Meaning.{Questions}
 use Rattle.gd_cells.specs.Witnesses.{witness_of}
 use Rattle.gd_cells.specs.declared.cell.Cell.{Cell}

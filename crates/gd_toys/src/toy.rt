@@ -15,8 +15,8 @@ impl Watch for () {
     fn see(&self, _cell: &Cell) {}
 }
 
-/// Where it shows, every assignment is feasible, and centres hold from the level `least` on. Else none is, and cells are
-/// refuted from `depth` on, and those of the first root from level 1 on. `points` is advice for threads.
+/// Where it shows, every assignment is feasible, and centres hold from the level `least` on. Else none is, and cells
+/// are refuted from `depth` on, and those of the first root from level 1 on. `points` is advice for threads.
 #[derive(Drop)]
 pub struct Toy<'a, W: Watch> {
     pub shows: bool,

@@ -1,5 +1,6 @@
 -- Boxes of the placements of a cell, and what they hold.
 use Rattle.std.specs.Prelude.{ℕ, pos, ◌+◌, ◌*◌, ◌^◌, ◌≡◌, ◌==◌, ◌-ℤ◌, ◌*ℤ◌, ◌≤ℤ◌, nat_le, if◌then◌else◌}
+use Rattle.gd_base.specs.Scales.{FINE, ONE}
 use Rattle.gd_cells.specs.declared.cell.Cell.{Cell}
 use Rattle.gd_grid.specs.Cells.{high_in, low_in}
 use Rattle.gd_quat.specs.Boxes.{HoldsRotation, HoldsVector, IsRotationBox, VectorFits, width_of}
@@ -7,7 +8,7 @@ use Rattle.gd_quat.specs.Formulas.{Ends, RotationEnds, VectorEnds, alone, point_
 use Rattle.gd_quat.specs.Laws.{RotationInside, VectorInside}
 use Rattle.gd_quat.specs.Placements.{IsPlacement, Placement, times}
 use Rattle.gd_quat.specs.declared.shape.VecBox.{VecBox}
-use Rattle.gd_turn.specs.Ranges.{LiesIn, ORIGIN, coordinates_of, face_of}
+use Rattle.gd_turn.specs.Ranges.{LENGTH_SIZE, LiesIn, ORIGIN, coordinates_of, face_of}
 use Rattle.gd_turn.specs.declared.ranges.CellBox.{CellBox}
 use Rattle.gd_turn.specs.declared.ranges.Ranges.{Ranges}
 use Rattle.gd_vec.specs.Vector.{norm_sum_of}
@@ -28,10 +29,10 @@ offset_ends r c number = if nat_le number r.offsets then three_from r c (3 * num
 -- the component that leads is 1, and the three others are given in ascending order
 abbrev pub turn_ends : ℕ → Ends → Ends → Ends → RotationEnds
 turn_ends face a b d =
-    if face == 0 then record { q0 = alone (pos (2 ^ 30)); q1 = a; q2 = b; q3 = d }
-    else (if face == 1 then record { q0 = a; q1 = alone (pos (2 ^ 30)); q2 = b; q3 = d }
-    else (if face == 2 then record { q0 = a; q1 = b; q2 = alone (pos (2 ^ 30)); q3 = d }
-    else record { q0 = a; q1 = b; q2 = d; q3 = alone (pos (2 ^ 30)) }))
+    if face == 0 then record { q0 = alone (pos ONE); q1 = a; q2 = b; q3 = d }
+    else (if face == 1 then record { q0 = a; q1 = alone (pos ONE); q2 = b; q3 = d }
+    else (if face == 2 then record { q0 = a; q1 = b; q2 = alone (pos ONE); q3 = d }
+    else record { q0 = a; q1 = b; q2 = d; q3 = alone (pos ONE) }))
 
 abbrev pub turn_ends_in : Ranges → Cell → RotationEnds
 turn_ends_in r c = turn_ends (face_of r.turn c.root) (ends_in r c 0) (ends_in r c 1) (ends_in r c 2)
@@ -43,19 +44,19 @@ pub record IsBoxOf (r : Ranges) (c : Cell) (b : CellBox) : Type 0 where
   pub first : vector_ends b.first ≡ offset_ends r c 1
   pub second : vector_ends b.second ≡ offset_ends r c 2
 
--- one component is 1 and none is larger, and no translation or offset is larger than 2^29 units
+-- one component is 1 and none is larger, and no translation or offset is too large
 pub record IsCellBox (b : CellBox) : Type 0 where
   pub turn : IsRotationBox b.turn
-  pub shift : VectorFits (2 ^ 45) b.shift
-  pub first : VectorFits (2 ^ 45) b.first
-  pub second : VectorFits (2 ^ 45) b.second
+  pub shift : VectorFits LENGTH_SIZE b.shift
+  pub first : VectorFits LENGTH_SIZE b.first
+  pub second : VectorFits LENGTH_SIZE b.second
 
 -- ---- what a box holds
 pub record HoldsPlacement (b : CellBox) (p : Placement) : Type 0 where
   pub turn : HoldsRotation b.turn p.turn
-  pub shift : HoldsVector b.shift p.scale (times (pos (2 ^ 16)) p.shift)
-  pub first : HoldsVector b.first p.scale (times (pos (2 ^ 16)) p.first)
-  pub second : HoldsVector b.second p.scale (times (pos (2 ^ 16)) p.second)
+  pub shift : HoldsVector b.shift p.scale (times (pos FINE) p.shift)
+  pub first : HoldsVector b.first p.scale (times (pos FINE) p.first)
+  pub second : HoldsVector b.second p.scale (times (pos FINE) p.second)
 
 -- the box holds every placement that lies in the cell
 abbrev pub EnclosesPlacements : Ranges → Cell → CellBox → Type 0

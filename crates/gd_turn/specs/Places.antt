@@ -1,10 +1,10 @@
 -- The placements that the witnesses of ranges stand for.
-use Rattle.std.specs.Prelude.{ℕ, ◌+◌, ◌^◌, ◌≡◌, true}
+use Rattle.std.specs.Prelude.{ℕ, ◌+◌, ◌≡◌, true}
 use Rattle.gd_cells.specs.declared.cell.Witness.{Witness}
 use Rattle.gd_grid.specs.Cells.{is_in_range, number_at}
 use Rattle.gd_quat.specs.Placements.{IsOnGrid, placement_of}
 use Rattle.gd_quat.specs.declared.shape.Assignment.{Assignment}
-use Rattle.gd_turn.specs.Ranges.{AreRanges, IsInRange, coordinates_of, face_of, roots_of}
+use Rattle.gd_turn.specs.Ranges.{AreRanges, IsInRange, LENGTH_SIZE, coordinates_of, face_of, roots_of}
 use Rattle.gd_turn.specs.declared.ranges.Ranges.{Ranges}
 use Rattle.gd_vec.specs.Vector.{IsWithin}
 use Rattle.gd_vec.specs.declared.vector.V3.{V3}
@@ -27,9 +27,9 @@ assignment_at r w = record {
 pub record IsAssignmentIn (r : Ranges) (a : Assignment) : Type 0 where
   pub grid : IsOnGrid a
   pub range : IsInRange r (placement_of a)
-  pub shift : IsWithin (2 ^ 45) a.shift
-  pub first : IsWithin (2 ^ 45) a.first
-  pub second : IsWithin (2 ^ 45) a.second
+  pub shift : IsWithin LENGTH_SIZE a.shift
+  pub first : IsWithin LENGTH_SIZE a.first
+  pub second : IsWithin LENGTH_SIZE a.second
 
 -- a witness that is in range stands for such a one
 abbrev pub WitnessesArePlacements : Type 0

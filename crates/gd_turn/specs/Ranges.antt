@@ -3,6 +3,7 @@
 use Rattle.std.specs.Prelude.{ℕ, zero, suc, ℤ, pos, ◌+◌, ◌*◌, ◌-◌, ◌^◌, ◌≤◌, ◌<◌, ◌≡◌, ◌==◌, ◌-ℤ◌, ◌*ℤ◌, ◌<ℤ◌, nat_le}
 use Rattle.std.specs.Prelude.{unsigned_abs, List, [], ◌∷◌, if◌then◌else◌}
 use Rattle.gd_base.specs.Limits.{LARGE_COORDINATE, LARGE_SHIFT, TURN}
+use Rattle.gd_base.specs.Scales.{FINE, ONE}
 use Rattle.gd_cells.specs.Grid.{Grid}
 use Rattle.gd_cells.specs.declared.cell.Cell.{Cell}
 use Rattle.gd_grid.specs.Cells.{Fraction, LieIn}
@@ -61,13 +62,17 @@ pub record IsInRange (r : Ranges) (p : Placement) : Type 0 where
   pub no_second : r.offsets < 2 → p.second ≡ ORIGIN
 
 -- ---- coordinates
+-- how large an entry of a translation or an offset is at most, in fine units: 2^29 units
+abbrev pub LENGTH_SIZE : ℕ
+LENGTH_SIZE = 2 ^ 45
+
 -- a ratio goes from -2^-k to 2^-k, in 2^-30
 abbrev pub ratio : TurnRange → Coordinate
 ratio turn = about (pos 0) (30 - turn_of turn)
 
 -- a shift and an offset go from -2^shift to 2^shift units about an entry of a centre, in fine units of 2^-16
 abbrev pub length_about : ℕ → ℤ → Coordinate
-length_about shift centre = about (centre *ℤ pos (2 ^ 16)) (shift + 16)
+length_about shift centre = about (centre *ℤ pos FINE) (shift + 16)
 
 abbrev pub offset_coordinates : ℕ → Coordinate → List Coordinate
 offset_coordinates zero k = []
@@ -113,11 +118,11 @@ third_other face = if nat_le face 2 then 3 else 2
 
 -- a component over the leading one, in 2^-30: over the square of the leading one, so that its sign doesn't matter
 abbrev pub ratio_to : ℤ → ℤ → Fraction
-ratio_to lead x = record { under = lead *ℤ lead; value = pos (2 ^ 30) *ℤ (x *ℤ lead) }
+ratio_to lead x = record { under = lead *ℤ lead; value = pos ONE *ℤ (x *ℤ lead) }
 
 -- the entries of v / scale, in fine units
 abbrev pub fine : ℕ → ℤ → Fraction
-fine scale x = record { under = pos scale; value = pos (2 ^ 16) *ℤ x }
+fine scale x = record { under = pos scale; value = pos FINE *ℤ x }
 
 abbrev pub fine_entries : ℕ → V3 → List Fraction → List Fraction
 fine_entries scale v rest = fine scale v.x ∷ fine scale v.y ∷ fine scale v.z ∷ rest

@@ -9,6 +9,7 @@ ghost use Rattle.gd_turn.specs.Boxes.{turn_ends, turn_ends_in};
 ghost use Rattle.gd_turn.specs.Ranges.{AreRanges, cells_of, coordinates_of, face_of, length_about, ratio, turn_of};
 
 use crate::ranges::{CellBox, Ranges, TurnRange};
+use gd_base::scales::FINE;
 use gd_cells::Cell;
 use gd_grid::{Coordinate, about, coordinate_box};
 use gd_interval::{Iv, between, point};
@@ -17,9 +18,6 @@ use gd_vec::V3;
 
 /// 1 as a ratio. Ratios are in 2^-30.
 const ONE: i128 = 1 << 30;
-
-/// One unit in fine units, which are 2^-16 of a unit.
-const FINE: i64 = 1 << 16;
 
 /// An offset that the ranges don't have.
 const ORIGIN: V3 = V3 { x: 0, y: 0, z: 0 };

@@ -1,7 +1,9 @@
 -- Boxes with the ends that a cell, or a place of the grid, has: so what is proved of boxes is so of ends.
-use Rattle.std.proofs.Common.{arith, ◌≡◌, refl, ap, ◌∙◌, ℕ, ◌+◌, ◌*◌, ◌^◌, ◌≤◌, Bool, true, false, ◌==◌, nat_le, inl, inr, ⊎_elim, unsigned_abs, length}
+use Rattle.std.proofs.Common.{arith, ◌≡◌, refl, ap, ◌∙◌, ℕ, ◌+◌, ◌*◌, ◌^◌, ◌≤◌, Bool, true, false, ◌==◌, nat_le, inl}
+use Rattle.std.proofs.Common.{inr, ⊎_elim, unsigned_abs, length}
 use Rattle.std.proofs.lemmas.Int.{ints}
 use Rattle.std.specs.Prelude.{ℤ, pos, ◌+ℤ◌, ◌*ℤ◌, ◌≤ℤ◌, ◌<ℤ◌, ◌⊎◌, if◌then◌else◌}
+use Rattle.gd_base.specs.Scales.{ONE}
 use Rattle.gd_cells.specs.Grid.{IsCell}
 use Rattle.gd_cells.specs.declared.cell.Cell.{Cell}
 use Rattle.gd_fit.specs.Tests.{cell_ends}
@@ -14,7 +16,10 @@ use Rattle.gd_interval.specs.declared.iv.Iv.{Iv}
 use Rattle.gd_quat.proofs.Encloses.{holds-matrix, norm-large}
 use Rattle.gd_quat.proofs.Grid.{grid-rotation, holds-grid, holds-point}
 use Rattle.gd_quat.specs.Boxes.{Fits, IsRotationBox}
-use Rattle.gd_quat.specs.Formulas.{Ends, MatrixEnds, RotationEnds, VectorEnds, alone, balance, difference, ends, grid_ends, matrix_ends, matrix_formula, multiple, norm_ends, numerator_ends, point_ends, product, quotient, quotients, rotation_ends, square, sum, total, vector_ends}
+use Rattle.gd_quat.specs.Formulas.{Ends, MatrixEnds, RotationEnds, VectorEnds, alone, balance, difference, ends}
+use Rattle.gd_quat.specs.Formulas.{grid_ends, matrix_ends, matrix_formula, multiple, norm_ends, numerator_ends}
+use Rattle.gd_quat.specs.Formulas.{point_ends, product, quotient, quotients, rotation_ends, square, sum, total}
+use Rattle.gd_quat.specs.Formulas.{vector_ends}
 use Rattle.gd_quat.specs.Placements.{IsOnGrid, IsPlacement, Placement, placement_of, rotation_at}
 use Rattle.gd_quat.specs.Rotations.{Rotation}
 use Rattle.gd_quat.specs.declared.shape.Assignment.{Assignment}
@@ -129,7 +134,8 @@ norm_ordered q h i j k =
 counts : (n : ℤ) → pos (2 ^ 60) ≤ℤ n → pos 0 <ℤ n
 counts n h = omega (arith, ints, h)
 
-matrix_boxed : (b : RotationBox) → IsRotationBox b → (m : MatrixBox) × (matrix_ends m ≡ matrix_formula (rotation_ends b))
+matrix_boxed : (b : RotationBox) → IsRotationBox b → (m : MatrixBox)
+    × (matrix_ends m ≡ matrix_formula (rotation_ends b))
 matrix_boxed b h =
     divided (numerator_ends (rotation_ends b)) (norm_ends (rotation_ends b))
     (numerators_ordered (rotation_ends b) b.q0.ordered b.q1.ordered b.q2.ordered b.q3.ordered)
@@ -160,14 +166,14 @@ turn_boxed : (face : ℕ) (x y z : Iv) → (b : RotationBox) × (rotation_ends b
 turn_boxed face x y z = choose (face == 0) (face == 1) (face == 2)
   where
     choose : (s t u : Bool) → (b : RotationBox) × (rotation_ends b ≡ (
-        if s then record { q0 = alone (pos (2 ^ 30)); q1 = ends x; q2 = ends y; q3 = ends z }
-        else (if t then record { q0 = ends x; q1 = alone (pos (2 ^ 30)); q2 = ends y; q3 = ends z }
-        else (if u then record { q0 = ends x; q1 = ends y; q2 = alone (pos (2 ^ 30)); q3 = ends z }
-        else record { q0 = ends x; q1 = ends y; q2 = ends z; q3 = alone (pos (2 ^ 30)) }))))
-    choose true t u = (record { q0 = only (pos (2 ^ 30)); q1 = x; q2 = y; q3 = z }, refl)
-    choose false true u = (record { q0 = x; q1 = only (pos (2 ^ 30)); q2 = y; q3 = z }, refl)
-    choose false false true = (record { q0 = x; q1 = y; q2 = only (pos (2 ^ 30)); q3 = z }, refl)
-    choose false false false = (record { q0 = x; q1 = y; q2 = z; q3 = only (pos (2 ^ 30)) }, refl)
+        if s then record { q0 = alone (pos ONE); q1 = ends x; q2 = ends y; q3 = ends z }
+        else (if t then record { q0 = ends x; q1 = alone (pos ONE); q2 = ends y; q3 = ends z }
+        else (if u then record { q0 = ends x; q1 = ends y; q2 = alone (pos ONE); q3 = ends z }
+        else record { q0 = ends x; q1 = ends y; q2 = ends z; q3 = alone (pos ONE) }))))
+    choose true t u = (record { q0 = only (pos ONE); q1 = x; q2 = y; q3 = z }, refl)
+    choose false true u = (record { q0 = x; q1 = only (pos ONE); q2 = y; q3 = z }, refl)
+    choose false false true = (record { q0 = x; q1 = y; q2 = only (pos ONE); q3 = z }, refl)
+    choose false false false = (record { q0 = x; q1 = y; q2 = z; q3 = only (pos ONE) }, refl)
 
 cell_boxed : (r : Ranges) (c : Cell) → (b : CellBox) × IsBoxOf r c b
 cell_boxed r c =
@@ -218,7 +224,8 @@ is_cell_placed r c b m are cell box e = record {
 pub cell_placed : (r : Ranges) (c : Cell) → AreRanges r → IsCell (cells_of r) c → (b : Placed) × IsCellPlaced r c b
 cell_placed r c are cell = by (cell_boxed r c)
   where
-    with_matrix : (b : CellBox) → IsBoxOf r c b → (m : MatrixBox) × (matrix_ends m ≡ matrix_formula (rotation_ends b.turn))
+    with_matrix : (b : CellBox) → IsBoxOf r c b → (m : MatrixBox)
+        × (matrix_ends m ≡ matrix_formula (rotation_ends b.turn))
         → (b : Placed) × IsCellPlaced r c b
     with_matrix b box m = (
       record { matrix = m.0; shift = b.shift; first = b.first; second = b.second },
@@ -232,16 +239,16 @@ cell_placed r c are cell = by (cell_boxed r c)
 abbrev only_rotation : Rotation → RotationBox
 only_rotation q = record { q0 = only q.q0; q1 = only q.q1; q2 = only q.q2; q3 = only q.q3 }
 
-only_fits : (z : ℤ) → unsigned_abs z ≤ 2 ^ 30 → Fits (2 ^ 30) (only z)
+only_fits : (z : ℤ) → unsigned_abs z ≤ ONE → Fits ONE (only z)
 only_fits z h = record { lo = h; hi = h }
 
 -- one component of it is 1, and none is larger
 record IsUnit (q : Rotation) : Type 0 where
-  q0 : unsigned_abs q.q0 ≤ 2 ^ 30
-  q1 : unsigned_abs q.q1 ≤ 2 ^ 30
-  q2 : unsigned_abs q.q2 ≤ 2 ^ 30
-  q3 : unsigned_abs q.q3 ≤ 2 ^ 30
-  leads : (q.q0 ≡ pos (2 ^ 30)) ⊎ ((q.q1 ≡ pos (2 ^ 30)) ⊎ ((q.q2 ≡ pos (2 ^ 30)) ⊎ (q.q3 ≡ pos (2 ^ 30))))
+  q0 : unsigned_abs q.q0 ≤ ONE
+  q1 : unsigned_abs q.q1 ≤ ONE
+  q2 : unsigned_abs q.q2 ≤ ONE
+  q3 : unsigned_abs q.q3 ≤ ONE
+  leads : (q.q0 ≡ pos ONE) ⊎ ((q.q1 ≡ pos ONE) ⊎ ((q.q2 ≡ pos ONE) ⊎ (q.q3 ≡ pos ONE)))
 
 unit_box : (q : Rotation) → IsUnit q → IsRotationBox (only_rotation q)
 unit_box q h = record {
@@ -253,18 +260,18 @@ unit_box q h = record {
       (λ g. inr (⊎_elim (λ e. inl (e, e)) (λ k. inr (⊎_elim (λ e. inl (e, e)) (λ e. inr (e, e)) k)) g)) h.leads;
 }
 
-grid_unit : (face : ℕ) (r : Ratios) → unsigned_abs r.first ≤ 2 ^ 30 → unsigned_abs r.second ≤ 2 ^ 30
-    → unsigned_abs r.third ≤ 2 ^ 30 → IsUnit (rotation_at face r)
+grid_unit : (face : ℕ) (r : Ratios) → unsigned_abs r.first ≤ ONE → unsigned_abs r.second ≤ ONE
+    → unsigned_abs r.third ≤ ONE → IsUnit (rotation_at face r)
 grid_unit face r h i j = choose (face == 0) (face == 1) (face == 2)
   where
-    one : unsigned_abs (pos (2 ^ 30)) ≤ 2 ^ 30
+    one : unsigned_abs (pos ONE) ≤ ONE
     one = omega arith
 
     choose : (s t u : Bool) → IsUnit (
-        if s then record { q0 = pos (2 ^ 30); q1 = r.first; q2 = r.second; q3 = r.third }
-        else (if t then record { q0 = r.first; q1 = pos (2 ^ 30); q2 = r.second; q3 = r.third }
-        else (if u then record { q0 = r.first; q1 = r.second; q2 = pos (2 ^ 30); q3 = r.third }
-        else record { q0 = r.first; q1 = r.second; q2 = r.third; q3 = pos (2 ^ 30) })))
+        if s then record { q0 = pos ONE; q1 = r.first; q2 = r.second; q3 = r.third }
+        else (if t then record { q0 = r.first; q1 = pos ONE; q2 = r.second; q3 = r.third }
+        else (if u then record { q0 = r.first; q1 = r.second; q2 = pos ONE; q3 = r.third }
+        else record { q0 = r.first; q1 = r.second; q2 = r.third; q3 = pos ONE })))
     choose true t u = record { q0 = one; q1 = h; q2 = i; q3 = j; leads = inl refl }
     choose false true u = record { q0 = h; q1 = one; q2 = i; q3 = j; leads = inr (inl refl) }
     choose false false true = record { q0 = h; q1 = i; q2 = one; q3 = j; leads = inr (inr (inl refl)) }
@@ -278,7 +285,8 @@ abbrev grid_rotation : Assignment → RotationBox
 grid_rotation a = only_rotation (rotation_at a.face a.ratios)
 
 grid_with : (a : Assignment) → IsRotationBox (grid_rotation a)
-    → (m : MatrixBox) × (matrix_ends m ≡ matrix_formula (rotation_ends (grid_rotation a))) → (b : Placed) × IsPlacedAt a b
+    → (m : MatrixBox) × (matrix_ends m ≡ matrix_formula (rotation_ends (grid_rotation a))) → (b : Placed)
+    × IsPlacedAt a b
 unfolding grid_placed
 grid_with a fits m = (
   record { matrix = m.0; shift = only_vector a.shift; first = only_vector a.first; second = only_vector a.second },
@@ -297,7 +305,8 @@ grid_with a fits m = (
 )
 
 pub grid_is_placed : (a : Assignment) → IsOnGrid a → (b : Placed) × IsPlacedAt a b
-grid_is_placed a on = by (unit_box (rotation_at a.face a.ratios) (grid_unit a.face a.ratios on.first on.second on.third))
+grid_is_placed a on =
+    by (unit_box (rotation_at a.face a.ratios) (grid_unit a.face a.ratios on.first on.second on.third))
   where
     by : IsRotationBox (grid_rotation a) → (b : Placed) × IsPlacedAt a b
     by fits = grid_with a fits (matrix_boxed (grid_rotation a) fits)

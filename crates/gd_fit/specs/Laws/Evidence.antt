@@ -1,6 +1,7 @@
 -- The first evidence of a group refutes the condition that it names, where there is none, none refutes, and its numbers
 -- are small.
-use Rattle.std.proofs.Common.{arith, ◌≡◌, refl, sym, subst, ◌∙◌, ℕ, zero, suc, ◌+◌, ◌-◌, ◌≤◌, ◌<◌, Bool, true, false, ◌&&◌, ◌==◌, Option, None, Some, List, [], ◌∷◌, length}
+use Rattle.std.proofs.Common.{arith, ◌≡◌, refl, sym, subst, ◌∙◌, ℕ, zero, suc, ◌+◌, ◌-◌, ◌≤◌, ◌<◌, Bool, true, false}
+use Rattle.std.proofs.Common.{◌&&◌, ◌==◌, Option, None, Some, List, [], ◌∷◌, length}
 use Rattle.std.proofs.lemmas.Bool.{false≢true}
 use Rattle.std.proofs.lemmas.Bool.Decides.{nat_tests}
 use Rattle.std.proofs.lemmas.List.Elements.{All-head, All-tail}
@@ -10,7 +11,8 @@ use Rattle.std.specs.Prelude.{filter, map, option_map, slice_get}
 use Rattle.gd_base.specs.Limits.{CONDITIONS, POINTS}
 use Rattle.gd_bound.proofs.Firsts.{first-refutes, none-refutes}
 use Rattle.gd_bound.proofs.Refuting.{and-left, and-right}
-use Rattle.gd_bound.specs.Evidence.{evidence_of, first, names, passes_by_more, refuted_at, refutes_by, refuting_pair, value_outside}
+use Rattle.gd_bound.specs.Evidence.{evidence_of, first, names, passes_by_more, refuted_at, refutes_by, refuting_pair}
+use Rattle.gd_bound.specs.Evidence.{value_outside}
 use Rattle.gd_bound.specs.declared.pair.Pair.{Pair}
 use Rattle.gd_cells.specs.Laws.{IsShort}
 use Rattle.gd_cells.specs.declared.cell.Evidence.{Evidence}
@@ -99,7 +101,8 @@ module _ (b : PlacedEnds) (base : V3) (rows : List Row) where
   first_found number (c ∷ cs) e is h =
       by (λ g. first_found (number + 1) cs e (All-tail IsCondition c cs is) g) (first b base rows c number) refl h
     where
-      by : (first_against b base rows (number + 1) cs ≡ Some e → Refutes (number + 1) cs e) → (o : Option Evidence) → first b base rows c number ≡ o
+      by : (first_against b base rows (number + 1) cs ≡ Some e → Refutes (number + 1) cs e) → (o : Option Evidence)
+          → first b base rows c number ≡ o
           → option_or o (first_against b base rows (number + 1) cs) ≡ Some e → Refutes number (c ∷ cs) e
       by more None is_none g = there_too number c cs e (more g)
       by more (Some f) is_some g = here number c cs e (All-head IsCondition c cs is) (is_some ∙ g)

@@ -1,5 +1,6 @@
 -- The laws of a group of conditions as a task.
-use Rattle.std.proofs.Common.{◌≡◌, refl, sym, subst, ◌≤◌, ◌<◌, true, Option, None, Some, List, [], ◌∷◌, length, get_or, arith}
+use Rattle.std.proofs.Common.{◌≡◌, refl, sym, subst, ◌≤◌, ◌<◌, true, Option, None, Some, List, [], ◌∷◌, length, get_or}
+use Rattle.std.proofs.Common.{arith}
 use Rattle.std.proofs.lemmas.Bool.{false≢true}
 use Rattle.std.proofs.lemmas.List.{length-map}
 use Rattle.std.proofs.lemmas.List.Elements.{All-map}
@@ -72,7 +73,8 @@ refuted_is_unmet q c e asked cell h = by (numbered q.conditions e.condition) ref
         → (p : Placement) → IsPlacement p → LiesIn q.ranges c p → Meets p q.base q.rows k → ⊥
     over k is r b p ok lies m =
         refuted-is-empty b.0 q.base q.rows k e (named IsCondition q.conditions e.condition k asked.conditions is)
-        (subst (λ (z : PlacedEnds). refuted_at z q.base q.rows k e ≡ true) (sym b.1.ends) r) p ok (b.1.holds p ok lies) m
+        (subst (λ (z : PlacedEnds). refuted_at z q.base q.rows k e ≡ true) (sym b.1.ends) r) p ok
+        (b.1.holds p ok lies) m
 
     by : (o : Option Condition) → numbered q.conditions e.condition ≡ o
         → refutes_named (cell_ends q.ranges c) q.base q.rows e o ≡ true → IsUnmetIn q c e

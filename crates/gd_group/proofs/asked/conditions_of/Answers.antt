@@ -10,8 +10,8 @@ returns-clause-conditions c =
     group-ok c.args.index.now.table.now (file_of c.args.file.now) c.requires.file c.args.group.now
 
 pub returns-clause-points : goal.returns-clause-points
-returns-clause-points c = λ used.
-    group-seen c.args.index.now.table.now (file_of c.args.file.now) c.requires.file used c.args.group.now
+returns-clause-points c =
+    group-seen c.args.index.now.table.now (file_of c.args.file.now) c.requires.file c.show_points.ensures.used c.args.group.now
 
 pub returns-clause-few : goal.returns-clause-few
 returns-clause-few c = λ r e.
