@@ -82,6 +82,17 @@ kept-within r z h k l = above_grows z (r *ℤ r) (ceil_root z) r l (ceil-root-is
 le-true : (a b : ℤ) → int_le a b ≡ true → a ≤ℤ b
 le-true a b h = record { le = T_from_true (int_le a b) h }
 
+-- ---- what a test that fails shows
+not-le : (p q : ℤ) → int_le p q ≡ false → p ≤ℤ q → ⊥
+not-le p q h l = absurd (omega (arith, ints, h, l))
+
+differ : (x y : ℤ) → (x ≡ y → ⊥) → int_eq x y ≡ false
+differ x y h = by (int_eq x y) refl
+  where
+    by : (t : Bool) → int_eq x y ≡ t → t ≡ false
+    by true e = absurd (h ((signed_Decides x y).0 e))
+    by false e = refl
+
 -- ---- the values of judged points
 module _ (shape : FormShape) (b : DirBox) (a : V3) (rows : List Row) (judged : List ℕ) where
   pub lower-length : length (lower_ends shape b a rows judged) ≡ length judged
@@ -136,16 +147,6 @@ module _ (shape : FormShape) (b : DirBox) (a : V3) (rows : List Row) (judged : L
     where
       below : (r z : ℤ) → int_le (r *ℤ r) z ≡ false → (floor_root z *ℤ floor_root z) ≤ℤ z → r ≡ floor_root z → ⊥
       below r z h l e = not-le (r *ℤ r) z h (subst (λ q. (q *ℤ q) ≤ℤ z) (sym e) l)
-        where
-          not-le : (p q : ℤ) → int_le p q ≡ false → p ≤ℤ q → ⊥
-          not-le p q h l = absurd (omega (arith, ints, h, l))
-
-      differ : (x y : ℤ) → (x ≡ y → ⊥) → int_eq x y ≡ false
-      differ x y h = by (int_eq x y) refl
-        where
-          by : (t : Bool) → int_eq x y ≡ t → t ≡ false
-          by true e = absurd (h ((signed_Decides x y).0 e))
-          by false e = refl
 
   pub far-found : (r : ℤ) (n : ℕ) → r ≡ greatest (near_ends shape b a rows judged) → 0 < length judged → NoneBefore r n (near_ends shape b a rows judged) → n ≡ length judged → ⊥
   far-found r n e some none end =
@@ -181,16 +182,6 @@ module _ (shape : FormShape) (b : DirBox) (a : V3) (rows : List Row) (judged : L
     where
       above : (r z : ℤ) → int_le z (r *ℤ r) ≡ false → z ≤ℤ (ceil_root z *ℤ ceil_root z) → r ≡ ceil_root z → ⊥
       above r z h l e = not-le z (r *ℤ r) h (subst (λ q. z ≤ℤ (q *ℤ q)) (sym e) l)
-        where
-          not-le : (p q : ℤ) → int_le p q ≡ false → p ≤ℤ q → ⊥
-          not-le p q h l = absurd (omega (arith, ints, h, l))
-
-      differ : (x y : ℤ) → (x ≡ y → ⊥) → int_eq x y ≡ false
-      differ x y h = by (int_eq x y) refl
-        where
-          by : (t : Bool) → int_eq x y ≡ t → t ≡ false
-          by true e = absurd (h ((signed_Decides x y).0 e))
-          by false e = refl
 
   pub near-found : (r : ℤ) (n : ℕ) → r ≡ least (far_ends shape b a rows judged) → 0 < length judged → NoneBefore r n (far_ends shape b a rows judged) → n ≡ length judged → ⊥
   near-found r n e some none end =

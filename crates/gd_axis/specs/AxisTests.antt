@@ -1,9 +1,10 @@
 -- The written tests of the forms about an axis: values of points over a box of directions and offsets, what refutes the
 -- box, and when it holds. The values don't depend on the tolerance.
-use Rattle.std.specs.Prelude.{ℕ, ℤ, pos, ◌+◌, ◌-◌, ◌^◌, ◌&&◌, ◌*ℤ◌, ◌-ℤ◌, Bool, Option, Some, None, List, get_or}
+use Rattle.std.specs.Prelude.{ℕ, ℤ, pos, ◌+◌, ◌-◌, ◌&&◌, ◌*ℤ◌, ◌-ℤ◌, Bool, Option, Some, None, List, get_or}
 use Rattle.std.specs.Prelude.{int_le, int_lt, map, nat_eq, nat_le, if◌then◌else◌, option_map}
 use Rattle.std.specs.List.{find, list_all, list_any}
 use Rattle.std.specs.Ordering.{is_gt, is_le}
+use Rattle.gd_axis.specs.Sizes.{UNIT_SQUARE}
 use Rattle.gd_base.specs.Scales.{FINE}
 use Rattle.gd_cells.specs.declared.cell.Evidence.{Evidence}
 use Rattle.gd_dir.specs.declared.shape.DirBox.{DirBox}
@@ -64,7 +65,7 @@ value_of shape b a p = squares_of (across (bits_of shape) (direction_ends b) (fr
 abbrev pub length2_of : FormShape → DirBox → Ends
 length2_of Flat b = narrowed (squares_of (direction_ends b)) 28
 length2_of Line b = narrowed (squares_of (direction_ends b)) 28
-length2_of Circle b = multiple (squares_of (direction_ends b)) (pos (2 ^ 32))
+length2_of Circle b = multiple (squares_of (direction_ends b)) (pos UNIT_SQUARE)
 length2_of Cylinder b = narrowed (squares_of (direction_ends b)) 28
 
 -- the value of the point at a place, from 0, of a table

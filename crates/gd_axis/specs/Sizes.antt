@@ -24,3 +24,7 @@ SQUARE_SIZE = 2 ^ 112
 -- the squared length of a direction, in squares of fine units
 abbrev pub LENGTH2_SIZE : ℕ
 LENGTH2_SIZE = 2 ^ 54
+
+-- a square unit, in squares of fine units
+abbrev pub UNIT_SQUARE : ℕ
+UNIT_SQUARE = 2 ^ 32

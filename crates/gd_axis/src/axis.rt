@@ -1,6 +1,7 @@
 // The values of points about the axes of a box of directions and offsets. They don't depend on the tolerance.
 ghost use Rattle.std.specs.Prelude.{◌≡◌, ◌*◌, ◌^◌, ◌≤◌, ℕ, ◌*ℤ◌, ◌-ℤ◌, ◌≤ℤ◌, pos, unsigned_abs};
 ghost use Rattle.gd_axis.specs.Sizes.{ACROSS_SIZE, DIRECTION_SIZE, FROM_SIZE, LENGTH2_SIZE, POINT_SIZE, SQUARE_SIZE};
+ghost use Rattle.gd_axis.specs.Sizes.{UNIT_SQUARE};
 ghost use Rattle.gd_base.specs.Scales.{FINE, ONE};
 ghost use Rattle.gd_dir.specs.Boxes.{IsBox, OFFSET_SIZE};
 ghost use Rattle.gd_dir.specs.declared.shape.FormShape.TheVariants.{Circle};
@@ -264,7 +265,7 @@ fn ratio_length2(n: &VecBox) -> Iv
 // The squared length of a direction of whole entries, in squares of fine units.
 fn whole_length2(n: &VecBox) -> Iv
     requires { VectorFits DIRECTION_SIZE n.now }
-    ensures ends { ends result ≡ multiple (squares_of (vector_ends n.now)) (pos (2 ^ 32)) }
+    ensures ends { ends result ≡ multiple (squares_of (vector_ends n.now)) (pos UNIT_SQUARE) }
     ensures size { Fits LENGTH2_SIZE result }
     ensures not_negative { pos 0 ≤ℤ result.lo }
 {

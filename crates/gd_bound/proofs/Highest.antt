@@ -10,6 +10,7 @@ use Rattle.gd_bound.specs.Evidence.{first_highest, first_lowest, high_end, low_e
 use Rattle.gd_bound.specs.Thresholds.{high_threshold, low_threshold}
 use Rattle.gd_int.proofs.IntegerRoots.{root_ceil-least, root_floor-greatest}
 use Rattle.gd_int.proofs.Squares.{square_le}
+use Rattle.gd_points.specs.Index.{row_at}
 use Rattle.gd_points.specs.declared.table.Row.{Row}
 use Rattle.gd_quat.specs.Formulas.{Ends}
 use Rattle.gd_vec.specs.declared.vector.V3.{V3}
@@ -18,7 +19,7 @@ use Rattle.gd_zone.proofs.Ordered.{axis-ordered, ball-ordered}
 use Rattle.gd_zone.proofs.Pairs.{all-is}
 use Rattle.gd_zone.proofs.Roots.{ceil-root-mono, floor-root-mono}
 use Rattle.gd_zone.specs.Boxes.{placed_ends}
-use Rattle.gd_zone.specs.Extremes.{IsGreatest, IsLeast, ends_by, row_at}
+use Rattle.gd_zone.specs.Extremes.{IsGreatest, IsLeast, ends_by}
 use Rattle.gd_zone.specs.Tests.{ceil_root, demanded_ends, floor_root, root_above, root_below}
 use Rattle.gd_vec.specs.Vector.{difference}
 use Rattle.gd_zone.specs.declared.condition.Condition.{Condition}

@@ -6,14 +6,14 @@ use Rattle.std.specs.Prelude.{slice_get}
 use Rattle.gd_bound.specs.Evidence.{names, passes_by_more, refuted_at, refutes_by, value_outside}
 use Rattle.gd_bound.specs.Laws.{EvidenceRefutes, RefutedIsEmpty}
 use Rattle.gd_bound.proofs.Written.{contact-is, inner-is, outer-is, spread-is, within-is}
-use Rattle.gd_points.specs.Index.{passes}
+use Rattle.gd_points.specs.Index.{passes, row_at}
 use Rattle.gd_points.specs.declared.table.Row.{Row}
 use Rattle.gd_quat.specs.Formulas.{Ends}
 use Rattle.gd_vec.specs.declared.vector.V3.{V3}
 use Rattle.gd_zone.proofs.Unmet.{refuted-is-unmet}
 use Rattle.gd_zone.specs.Boxes.{PlacedEnds, placed_ends}
 use Rattle.gd_zone.specs.Conditions.{IsPair, belongs, is_of_feature, length2_of}
-use Rattle.gd_zone.specs.Extremes.{ends_by, row_at}
+use Rattle.gd_zone.specs.Extremes.{ends_by}
 use Rattle.gd_zone.specs.Refutations.{condition_refuted, is_more, surface_refuted}
 use Rattle.gd_zone.specs.Tests.{ends_at}
 use Rattle.gd_zone.specs.declared.condition.Condition.{Condition}

@@ -20,15 +20,17 @@ use Rattle.gd_vec.specs.declared.vector.V3.{V3}
 -- what a task asks. Flatness has no direction, point or shift
 abbrev pub asked_by : FormTask → Asked
 asked_by (form.Flat t) = asked_of Flat ORIGIN ORIGIN 0 t.tolerance t.points.table.now.rows t.numbers.now
-asked_by (form.Axis t) = asked_of t.shape t.direction t.own t.shift t.tolerance t.judged.points.table.now.rows t.judged.numbers.now
+asked_by (form.Axis t) =
+    asked_of t.shape t.direction t.own t.shift t.tolerance t.judged.points.table.now.rows t.judged.numbers.now
 
 -- what a definition asks of the rows of a table: its own shape and tolerance, of the points of its feature, or of its
--- group. A line's own point is its first, and its shift the least that loses no line; a circle and a cylinder have those
--- of the definition
+-- group. A line's own point is its first, and its shift the least that loses no line; a circle and a cylinder have
+-- those of the definition
 abbrev pub asked_about : FormShape → FormDef → List Row → List ℕ → Asked
 asked_about Flat def rows judged = asked_of Flat ORIGIN ORIGIN 0 def.tolerance rows judged
 asked_about Line def rows judged =
-    asked_of Line def.direction (point_at rows (get_or judged 0 0)) (least_power def.tolerance) def.tolerance rows judged
+    asked_of Line def.direction (point_at rows (get_or judged 0 0))
+    (least_power def.tolerance) def.tolerance rows judged
 asked_about Circle def rows judged = asked_of Circle def.direction def.point def.shift def.tolerance rows judged
 asked_about Cylinder def rows judged = asked_of Cylinder def.direction def.point def.shift def.tolerance rows judged
 
@@ -43,21 +45,26 @@ axis_is Line d own shift t rows judged axis = refl
 axis_is Circle d own shift t rows judged axis = refl
 axis_is Cylinder d own shift t rows judged axis = refl
 
-about_axis : (s : FormShape) (d own : V3) (shift t : ℕ) (rows : List Row) (judged : List ℕ) → (s ≡ Flat → ⊥) → IsAsked (asked_of s d own shift t rows judged)
-    → Laws (form_questions (asked_of s d own shift t rows judged)) (MeetsForm (asked_of s d own shift t rows judged)) (FormLies (asked_of s d own shift t rows judged)) (form_at (asked_of s d own shift t rows judged))
+about_axis : (s : FormShape) (d own : V3) (shift t : ℕ) (rows : List Row) (judged : List ℕ) → (s ≡ Flat → ⊥)
+    → IsAsked (asked_of s d own shift t rows judged)
+    → Laws (form_questions (asked_of s d own shift t rows judged)) (MeetsForm (asked_of s d own shift t rows judged))
+    (FormLies (asked_of s d own shift t rows judged)) (form_at (asked_of s d own shift t rows judged))
 about_axis Flat d own shift t rows judged axis asked = absurd (axis refl)
 about_axis Line d own shift t rows judged axis asked = axis_laws (asked_of Line d own shift t rows judged) asked
 about_axis Circle d own shift t rows judged axis asked = axis_laws (asked_of Circle d own shift t rows judged) asked
 about_axis Cylinder d own shift t rows judged axis asked = axis_laws (asked_of Cylinder d own shift t rows judged) asked
 
 -- ---- all laws, by the case
-pub form_laws : (t : FormTask) → Laws (form_questions (asked_by t)) (MeetsForm (asked_by t)) (FormLies (asked_by t)) (form_at (asked_by t))
+pub form_laws : (t : FormTask) → Laws (form_questions (asked_by t)) (MeetsForm (asked_by t)) (FormLies (asked_by t))
+    (form_at (asked_by t))
 form_laws (form.Flat t) = feature_laws t.points.table.now.rows t.numbers.now t.tolerance t.some t.short t.below t.few
-form_laws (form.Axis t) = about_axis t.shape t.direction t.own t.shift t.tolerance t.judged.points.table.now.rows t.judged.numbers.now t.axis (record {
-  near = t.shift_near;
-  line_shift = t.line_shift;
-  line_own = t.line_own;
-  some = t.judged.named;
-  below = t.judged.below;
-  few = t.judged.points.few;
-})
+form_laws (form.Axis t) =
+    about_axis t.shape t.direction t.own t.shift t.tolerance t.judged.points.table.now.rows t.judged.numbers.now t.axis
+    (record {
+      near = t.shift_near;
+      line_shift = t.line_shift;
+      line_own = t.line_own;
+      some = t.judged.named;
+      below = t.judged.below;
+      few = t.judged.points.few;
+    })

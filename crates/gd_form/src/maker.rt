@@ -1,5 +1,6 @@
 // The task of a form of a feature.
-ghost use Rattle.std.specs.Prelude.{◌≡◌, ◌<◌, ◌≤◌, ◌^◌, length};
+ghost use Rattle.std.specs.Prelude.{◌≡◌, ◌<◌, ◌≤◌, length};
+ghost use Rattle.gd_axis.specs.Sizes.{DIRECTION_SIZE, POINT_SIZE};
 ghost use Rattle.gd_base.specs.Limits.{TOLERANCE};
 ghost use Rattle.gd_dir.specs.declared.shape.FormShape.TheVariants.{Flat};
 ghost use Rattle.gd_flat.specs.Judged.{numbers_of};
@@ -12,13 +13,13 @@ use gd_dir::FormShape;
 use gd_flat::feature_task;
 use gd_points::PointIndex;
 
-/// The task of a form over the points of its feature, or of its group, which are found without a look at the whole table.
-/// It takes no memory. A line's own point is its first, and its axis is looked for within 2^b units of that, where b is the
-/// least with 2^b at least the tolerance.
+/// The task of a form over the points of its feature, or of its group, which are found without a look at the whole
+/// table. It takes no memory. A line's own point is its first, and its axis is looked for within 2^b units of that,
+/// where b is the least with 2^b at least the tolerance.
 pub fn form_task<'a>(index: &'a PointIndex<'a>, def: &FormDef) -> FormTask<'a>
     requires some { 0 < length (numbers_of def.now.feature def.now.group index.now.table.now.rows) }
-    requires direction { IsWithin (2 ^ 10) def.now.direction }
-    requires point { IsWithin (2 ^ 26) def.now.point }
+    requires direction { IsWithin DIRECTION_SIZE def.now.direction }
+    requires point { IsWithin POINT_SIZE def.now.point }
     requires shift { def.now.shift ≤ 28 }
     requires tolerance { def.now.tolerance ≤ TOLERANCE }
     ensures asked { asked_by result ≡ asked_for def.now index.now.table.now.rows }
@@ -45,8 +46,8 @@ fn flat_form<'a>(index: &'a PointIndex<'a>, def: &FormDef) -> FormTask<'a>
 fn axis_form<'a>(index: &'a PointIndex<'a>, def: &FormDef) -> FormTask<'a>
     requires axis { def.now.shape ≡ Flat → ⊥ }
     requires some { 0 < length (numbers_of def.now.feature def.now.group index.now.table.now.rows) }
-    requires direction { IsWithin (2 ^ 10) def.now.direction }
-    requires point { IsWithin (2 ^ 26) def.now.point }
+    requires direction { IsWithin DIRECTION_SIZE def.now.direction }
+    requires point { IsWithin POINT_SIZE def.now.point }
     requires shift { def.now.shift ≤ 28 }
     requires tolerance { def.now.tolerance ≤ TOLERANCE }
     ensures asked { asked_by result ≡ asked_for def.now index.now.table.now.rows }

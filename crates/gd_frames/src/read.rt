@@ -2,7 +2,7 @@
 ghost use Rattle.std.specs.Prelude.{◌≡◌, ◌<◌, ◌≤◌, ◌+◌, [], false, length, map, OnOk, IfOk};
 ghost use Rattle.toml.specs.View.{table_view};
 ghost use Rattle.gd_frames.specs.Counts.{limits};
-ghost use Rattle.gd_frames.specs.Entries.{datums_read, features_read, frames_read, placed};
+ghost use Rattle.gd_frames.specs.Entries.{datums_read, features_read, frames_read, placed, rest_in, whole};
 ghost use Rattle.gd_frames.specs.Facts.{IsFile};
 ghost use Rattle.gd_frames.specs.Files.{and_judged, file_in, frames, in_table, limits_from, tables_from, with_datum};
 ghost use Rattle.gd_frames.specs.Files.{with_feature, with_frame};
@@ -64,18 +64,46 @@ fn read_file(alloc: Global, points: &PointTable, table: &Table) -> Result<FrameF
     let top = read_top_level(alloc, table)?;
     let features = read_features(alloc, points, &top.ranges, top.features.as_slice())?;
     let datums = read_datums(alloc, &features, &top.ranges, top.datums.as_slice())?;
+    read_rest(alloc, points, top, features, datums)
+}
+
+// Reads the frames behind the features and the datums.
+fn read_rest(
+    alloc: Global,
+    points: &PointTable,
+    top: Top<'_>,
+    features: Listed<FeatureDef>,
+    datums: Listed<DatumDef>,
+) -> Result<FrameFile, ReadFault>
+    requires few { length top.frames.items ≤ FRAMES }
+    requires features { length features.names.keys ≤ FEATURES }
+    requires datums { length datums.names.keys ≤ DATUMS }
+    ensures { Gives input_cause file_of result
+        (rest_in points.now (seen_top top.entry) (features_read features) (datums_read datums)) }
+{
     let counts = count_groups(alloc, points)?;
     let frames = read_all_frames(alloc, &features, &datums, &counts, top.frames.as_slice())?;
-    match test_limits(&features, &datums, &counts, frames.items.as_slice()) {
-        Ok(()) => Ok(FrameFile {
-            turn: top.turn,
-            shift: top.shift,
-            centre: top.centre,
-            features: features.items,
-            datums: datums.items,
-            frames: frames.items,
-        }),
-        Err(fault) => Err(fault),
+    test_limits(&features, &datums, &counts, frames.items.as_slice())?;
+    Ok(whole_file(top, features, datums, frames))
+}
+
+// The file of the lists that were read.
+fn whole_file(
+    top: Top<'_>,
+    features: Listed<FeatureDef>,
+    datums: Listed<DatumDef>,
+    frames: Listed<FrameDef>,
+) -> FrameFile
+    ensures { file_of result ≡ whole (seen_top top.entry) (features_read features) (datums_read datums)
+        (frames_read frames) }
+{
+    FrameFile {
+        turn: top.turn,
+        shift: top.shift,
+        centre: top.centre,
+        features: features.items,
+        datums: datums.items,
+        frames: frames.items,
     }
 }
 

@@ -1,9 +1,11 @@
--- Requirements, groups and names by values worked by hand.
+-- Requirements, groups, names and forms by values worked by hand.
 use Rattle.std.specs.Prelude.{ℕ, pos, ◌≡◌, refl, Bool, true, false, List, [], ◌∷◌, Option, Some, None, codes}
 use Rattle.std.specs.Fmt.{digits}
+use Rattle.gd_dir.specs.declared.shape.FormShape.TheVariants as form
 use Rattle.gd_group.specs.Groups.{groups, whole}
 use Rattle.gd_group.specs.Labels.{label}
 use Rattle.gd_group.specs.Requirements.{requirement, requirements, sections}
+use Rattle.gd_group.specs.Tasks.{form_of}
 use Rattle.gd_group.specs.declared.requirement.Part.TheVariants as part
 use Rattle.gd_points.specs.declared.table.Row.{Row}
 use Rattle.gd_tables.specs.Kinds.{File, Frame}
@@ -90,6 +92,21 @@ names_of_parts = refl
 names_of_sections : label two (requirement 1 (part.Section 12) ∷ []) ≡ codes "ci#12"
 unfolding digits
 names_of_sections = refl
+
+-- a section asks for a circle through its own points, and a position asks no form
+form_of_section : form_of two (requirement 1 (part.Section 12) ∷ []) ≡ Some (record {
+  shape = form.Circle;
+  feature = 7;
+  group = Some 12;
+  direction = at_z 1;
+  point = at_z 0;
+  shift = 4;
+  tolerance = 100;
+})
+form_of_section = refl
+
+form_of_position : form_of two (whole 0 ∷ []) ≡ None
+form_of_position = refl
 
 -- a position and a profile with the same word are judged together; one that is separate isn't, nor one whose word has
 -- no `(M)`, nor an orientation

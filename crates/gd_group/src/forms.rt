@@ -13,8 +13,8 @@ use gd_form::FormDef;
 use gd_frames::{FeatureDef, FrameDef, FrameFile, Kind};
 use gd_points::PointIndex;
 
-/// The form that a group of a file's requirements asks: the form of its first requirement, as a form is judged by itself.
-/// `None` where it asks for a placement. The file was read beside the table of the index.
+/// The form that a group of a file's requirements asks: that of its first requirement, as a form is judged by itself.
+/// `None` where the group is judged at a placement. The file was read beside the table of the index.
 pub(crate) fn form_of(
     file: &FrameFile,
     index: &PointIndex<'_>,

@@ -2,8 +2,8 @@
 use gd_fit::PlacementTask;
 use gd_form::FormTask;
 
-/// A group as a task. A witness is one of a form, or a placement: a root, three ratios in 2^-30, and the translation and
-/// the offsets in fine units of 2^-16 unit.
+/// A group as a task. A witness is one of a form, or a placement: a root, three ratios in 2^-30, and the translation
+/// and the offsets in fine units of 2^-16 unit.
 #[derive(Drop)]
 pub enum GroupTask<'a> {
     /// A form of a feature, or of one section of it.

@@ -33,8 +33,8 @@ pub struct GroupTasks<'a> {
 }
 
 /// The groups of a frame file as tasks over the points of an index (docs/KINDS.md; docs/FORMATS.md, "Groups of
-/// requirements"), with their labels. There is one at least, and at most 300,000. The file was read beside the table of the
-/// index. The points of each condition and of each form are found once, here.
+/// requirements"), with their labels. There is one at least, and at most 300,000. The file was read beside the table of
+/// the index. The points of each condition and of each form are found once, here.
 pub fn groups<'a>(
     alloc: Global,
     file: &FrameFile,

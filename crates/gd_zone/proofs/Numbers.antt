@@ -1,10 +1,9 @@
 -- The points of a condition by their numbers: their values are those of its rows.
-use Rattle.std.proofs.Common.{◌≡◌, refl, sym, ap, ◌∙◌, ℕ, suc, ◌+◌, List, [], ◌∷◌, map, length, get_or, Bool, true, false, cond, filter, ◌==◌, ◌&&◌, Some, None, arith}
-use Rattle.std.proofs.lemmas.Bool.{false≢true}
-use Rattle.std.specs.List.{range_with_len}
-use Rattle.std.specs.Prelude.{slice_get}
+use Rattle.std.proofs.Common.{◌≡◌, refl, sym, ap, ◌∙◌, ℕ, List, map, Bool, true, false, filter, ◌==◌, ◌&&◌, Some, None}
+use Rattle.std.proofs.lemmas.Simd.{map-map}
 use Rattle.std.proofs.Math.Path.{fun_ext}
-use Rattle.gd_points.specs.Index.{is_of, is_of_group, numbers_where, passes}
+use Rattle.gd_points.proofs.ByNumber.{rows_where}
+use Rattle.gd_points.specs.Index.{is_of, is_of_group, numbers_where, row_at}
 use Rattle.gd_points.specs.declared.table.Row.{Row}
 use Rattle.gd_quat.specs.Formulas.{Ends}
 use Rattle.gd_vec.specs.Vector.{difference}
@@ -12,42 +11,14 @@ use Rattle.gd_vec.specs.declared.vector.V3.{V3}
 use Rattle.gd_zone.specs.Boxes.{PlacedEnds}
 use Rattle.gd_zone.specs.Conditions.{belongs, is_of_feature}
 use Rattle.gd_zone.specs.Conditions as conditions
-use Rattle.gd_zone.specs.Extremes.{ends_by, row_at}
+use Rattle.gd_zone.specs.Extremes.{ends_by}
 use Rattle.gd_zone.specs.Tests.{condition_holds, demanded_ends, ends_at, surface_holds}
 use Rattle.gd_zone.specs.declared.condition.Condition.{Condition}
 
--- ---- numbers from a place on
--- the rows from a on are those at the numbers from a on
-from-place : (f : Row → Ends) (test : Row → Bool) (d : Row) (all rows : List Row) (a : ℕ) → ((k : ℕ) → slice_get all (a + k) ≡ slice_get rows k) → ((k : ℕ) → get_or all (a + k) d ≡ get_or rows k d)
-    → map (λ i. f (get_or all i d)) (filter (λ i. passes test (slice_get all i)) (range_with_len a (length rows))) ≡ map f (filter test rows)
-from-place f test d all [] a s g = refl
-from-place f test d all (r ∷ rows) a s g =
-    let s0 : slice_get all a ≡ Some r = ap (slice_get all) (sym (zero-more a)) ∙ s 0 in
-    let g0 : get_or all a d ≡ r = ap (λ i. get_or all i d) (sym (zero-more a)) ∙ g 0 in
-    let more = from-place f test d all rows (a + 1) (λ k. ap (slice_get all) (one-more a k) ∙ s (suc k)) (λ k. ap (λ i. get_or all i d) (one-more a k) ∙ g (suc k)) in
-    by (test r) (passes test (slice_get all a)) (ap (passes test) s0) (ap f g0) more
-  where
-    zero-more : (a : ℕ) → a + 0 ≡ a
-    zero-more a = omega arith
-
-    one-more : (a k : ℕ) → (a + 1) + k ≡ a + suc k
-    one-more a k = omega arith
-
-    by : (t u : Bool) → u ≡ t → f (get_or all a d) ≡ f r
-        → map (λ i. f (get_or all i d)) (filter (λ i. passes test (slice_get all i)) (range_with_len (a + 1) (length rows))) ≡ map f (filter test rows)
-        → map (λ i. f (get_or all i d)) (cond u (a ∷ filter (λ i. passes test (slice_get all i)) (range_with_len (a + 1) (length rows))) (filter (λ i. passes test (slice_get all i)) (range_with_len (a + 1) (length rows)))) ≡ map f (cond t (r ∷ filter test rows) (filter test rows))
-    by true true e h m = rw (h, m) refl
-    by false false e h m = m
-    by true false e h m = absurd (false≢true e)
-    by false true e h m = absurd (false≢true (sym e))
-
-pub values-by-number : (f : Row → Ends) (test : Row → Bool) (rows : List Row) → map (λ i. f (row_at rows i)) (numbers_where test rows) ≡ map f (filter test rows)
-values-by-number f test rows = from-place f test (row_at [] 0) rows rows 0 (λ k. ap (slice_get rows) (none-more k)) (λ k. ap (λ i. get_or rows i (row_at [] 0)) (none-more k))
-  where
-    none-more : (k : ℕ) → 0 + k ≡ k
-    none-more k = omega arith
-
 -- ---- the values of a condition's points, and of its feature's
+pub values-by-number : (f : Row → Ends) (test : Row → Bool) (rows : List Row) → map (λ i. f (row_at rows i)) (numbers_where test rows) ≡ map f (filter test rows)
+values-by-number f test rows = sym (map-map f (row_at rows) (numbers_where test rows)) ∙ ap (map f) (rows_where test rows)
+
 pub ends-are : (b : PlacedEnds) (base : V3) (c : Condition) (rows : List Row) (test : Row → Bool) → map (ends_by b base c rows) (numbers_where test rows) ≡ map (ends_at b base c) (filter test rows)
 unfolding ends_by
 ends-are b base c rows test = values-by-number (ends_at b base c) test rows

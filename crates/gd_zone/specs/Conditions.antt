@@ -1,5 +1,6 @@
 -- What a condition asks of the points of a placed part. Comparisons with roots are stated without a root.
-use Rattle.std.specs.Prelude.{ℕ, ℤ, pos, neg_ℤ, ◌≤◌, ◌^◌, ◌==◌, ◌&&◌, ◌⊎◌, ◌-ℤ◌, ◌*ℤ◌, ◌≤ℤ◌, Bool, true, Option, Some, None, List, map, filter, unsigned_abs}
+use Rattle.std.specs.Prelude.{ℕ, ℤ, pos, neg_ℤ, ◌≤◌, ◌^◌, ◌==◌, ◌&&◌, ◌⊎◌, ◌-ℤ◌, ◌*ℤ◌, ◌≤ℤ◌}
+use Rattle.std.specs.Prelude.{Bool, true, Option, Some, None, List, map, filter, unsigned_abs}
 use Rattle.std.specs.List.{All, Any}
 use Rattle.std.specs.Option.{IfSome}
 use Rattle.gd_int.specs.Comparisons.{AtMost, RootAtMost}
@@ -47,7 +48,8 @@ is_of_group (Some group) row = row.group == group
 abbrev pub belongs : Condition → Row → Bool
 belongs c row = is_of_feature c row && is_of_group c.group row
 
--- ---- demands on values: k is the denominator, n the squared length, vs are the values of the points and all those of the whole feature
+-- ---- demands on values: k is the denominator, n the squared length, vs are the values of the points, and all those of
+-- the whole feature
 abbrev pub twice : ℤ → ℤ
 twice z = pos 2 *ℤ z
 
@@ -59,18 +61,25 @@ abbrev pub squared_bound : ℤ → ℤ → ℤ → ℤ
 squared_bound h k n = (h *ℤ h) *ℤ n *ℤ (k *ℤ k)
 
 abbrev pub PlaneDemand : Demand → ℤ → ℤ → List ℤ → Type 0
-PlaneDemand (Within lo hi) k n vs = All (λ s. IfSome hi (λ h. AtMost (twice s) (h *ℤ k) n) × IfSome lo (λ l. AtMost (neg_ℤ (twice s)) (neg_ℤ (l *ℤ k)) n)) vs
+PlaneDemand (Within lo hi) k n vs = All (λ s.
+    IfSome hi (λ h. AtMost (twice s) (h *ℤ k) n)
+    × IfSome lo (λ l. AtMost (neg_ℤ (twice s)) (neg_ℤ (l *ℤ k)) n)) vs
 PlaneDemand (Spread t) k n vs = (pos 0 ≤ℤ t) × All (λ a. All (λ b. AtMost (twice (a -ℤ b)) (t *ℤ k) n) vs) vs
 PlaneDemand (Contact hi) k n vs = Any (λ s. AtMost (twice s) (hi *ℤ k) n) vs
 PlaneDemand (HugInner slack) k n vs = ⊥
 PlaneDemand (HugOuter slack) k n vs = ⊥
 
 abbrev pub DistanceDemand : Demand → ℤ → ℤ → List ℤ → List ℤ → Type 0
-DistanceDemand (Within lo hi) k n vs all = All (λ c. IfSome hi (λ h. (pos 0 ≤ℤ h) × (four c ≤ℤ squared_bound h k n)) × IfSome lo (λ l. (l ≤ℤ pos 0) ⊎ (squared_bound l k n ≤ℤ four c))) vs
-DistanceDemand (Spread t) k n vs all = (pos 0 ≤ℤ t) × All (λ a. All (λ b. RootAtMost (four a) (four b) (squared_bound t k n)) vs) vs
+DistanceDemand (Within lo hi) k n vs all = All (λ c.
+    IfSome hi (λ h. (pos 0 ≤ℤ h) × (four c ≤ℤ squared_bound h k n))
+    × IfSome lo (λ l. (l ≤ℤ pos 0) ⊎ (squared_bound l k n ≤ℤ four c))) vs
+DistanceDemand (Spread t) k n vs all =
+    (pos 0 ≤ℤ t) × All (λ a. All (λ b. RootAtMost (four a) (four b) (squared_bound t k n)) vs) vs
 DistanceDemand (Contact hi) k n vs all = ⊥
-DistanceDemand (HugInner slack) k n vs all = (pos 0 ≤ℤ slack) × Any (λ a. All (λ b. RootAtMost (four a) (four b) (squared_bound slack k n)) all) vs
-DistanceDemand (HugOuter slack) k n vs all = (pos 0 ≤ℤ slack) × Any (λ a. All (λ b. RootAtMost (four b) (four a) (squared_bound slack k n)) all) vs
+DistanceDemand (HugInner slack) k n vs all =
+    (pos 0 ≤ℤ slack) × Any (λ a. All (λ b. RootAtMost (four a) (four b) (squared_bound slack k n)) all) vs
+DistanceDemand (HugOuter slack) k n vs all =
+    (pos 0 ≤ℤ slack) × Any (λ a. All (λ b. RootAtMost (four b) (four a) (squared_bound slack k n)) all) vs
 
 abbrev pub MeetsDemand : Surface → Demand → ℤ → List ℤ → List ℤ → Type 0
 MeetsDemand (Plane direction point) demand k vs all = PlaneDemand demand k (norm2_of direction) vs
@@ -84,7 +93,9 @@ exact_values p base c rows = map (λ (row : Row). exact_value c.surface p c.offs
 -- a placement meets a condition
 unfoldable pub Meets : Placement → V3 → List Row → Condition → Type 0
 Meets p base rows c =
-    MeetsDemand c.surface c.demand (pos (denominator_of p)) (exact_values p base c (filter (belongs c) rows)) (exact_values p base c (filter (is_of_feature c) rows))
+    MeetsDemand c.surface c.demand (pos (denominator_of p))
+    (exact_values p base c (filter (belongs c) rows))
+    (exact_values p base c (filter (is_of_feature c) rows))
 
 -- ---- the conditions that arise
 -- the eight pairs of surface and demand

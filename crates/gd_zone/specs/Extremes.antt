@@ -1,7 +1,8 @@
 -- The extremes of the values of some points, and the comparisons of two of them.
-use Rattle.std.specs.Prelude.{ℕ, ℤ, ◌≡◌, ◌-ℤ◌, ◌≤ℤ◌, Bool, List, Option, get_or, pos}
+use Rattle.std.specs.Prelude.{ℕ, ℤ, ◌≡◌, ◌-ℤ◌, ◌≤ℤ◌, Bool, List, Option, pos}
 use Rattle.std.specs.Int.{int_max, int_min}
 use Rattle.std.specs.List.{All, Any}
+pub use Rattle.gd_points.specs.Index.{row_at}
 use Rattle.gd_points.specs.declared.table.Row.{Row}
 use Rattle.gd_quat.specs.Formulas.{Ends}
 use Rattle.gd_vec.specs.Vector.{norm2_of}
@@ -13,9 +14,6 @@ use Rattle.gd_zone.specs.declared.condition.Surface.{Surface}
 use Rattle.gd_zone.specs.declared.condition.Surface.TheVariants.{Plane, Axis, Ball}
 
 -- ---- points by their numbers, from 0
-abbrev pub row_at : List Row → ℕ → Row
-row_at rows i = get_or rows i (record { feature = 0; group = 0; at = record { x = pos 0; y = pos 0; z = pos 0 } })
-
 -- the ends of the value of the point with a number
 unfoldable pub ends_by : PlacedEnds → V3 → Condition → List Row → ℕ → Ends
 ends_by b base c rows i = ends_at b base c (row_at rows i)

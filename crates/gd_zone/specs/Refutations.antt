@@ -1,5 +1,6 @@
 -- When a condition is refuted over a box of placements, on the ends of the values of its points.
-use Rattle.std.specs.Prelude.{◌≡◌, ℤ, pos, ◌&&◌, ◌||◌, ◌-ℤ◌, Bool, true, false, not, Option, Some, None, List, filter, int_lt, map}
+use Rattle.std.specs.Prelude.{◌≡◌, ℤ, pos, ◌&&◌, ◌||◌, ◌-ℤ◌, Bool, true, false, not}
+use Rattle.std.specs.Prelude.{Option, Some, None, List, filter, int_lt, map}
 use Rattle.std.specs.List.{list_all, list_any}
 use Rattle.gd_points.specs.declared.table.Row.{Row}
 use Rattle.gd_quat.specs.Formulas.{Ends}
@@ -34,7 +35,8 @@ plane_outside lo hi n e = fails (λ h. is_more e.lo h n) hi || fails (λ l. is_l
 
 abbrev pub distance_outside : Option ℤ → Option ℤ → ℤ → Ends → Bool
 distance_outside lo hi n e =
-    fails (λ h. int_lt h (pos 0) || int_lt (square_bound h n) e.lo) hi || fails (λ l. int_lt (pos 0) l && int_lt e.hi (square_bound l n)) lo
+    fails (λ h. int_lt h (pos 0) || int_lt (square_bound h n) e.lo) hi
+    || fails (λ l. int_lt (pos 0) l && int_lt e.hi (square_bound l n)) lo
 
 -- some point lies outside; some two are too far apart; no point of the group is near enough
 unfoldable pub plane_refuted : Demand → ℤ → List Ends → Bool
@@ -49,8 +51,10 @@ unfoldable pub distance_refuted : Demand → ℤ → List Ends → List Ends →
 distance_refuted (Within lo hi) n vs all = list_any (distance_outside lo hi n) vs
 distance_refuted (Spread t) n vs all = list_any (λ a. list_any (λ b. is_more (nearest a -ℤ farthest b) t n) vs) vs
 distance_refuted (Contact hi) n vs all = false
-distance_refuted (HugInner slack) n vs all = list_any (λ b. list_all (λ a. is_more (nearest a -ℤ farthest b) slack n) vs) all
-distance_refuted (HugOuter slack) n vs all = list_any (λ b. list_all (λ a. is_more (nearest b -ℤ farthest a) slack n) vs) all
+distance_refuted (HugInner slack) n vs all =
+    list_any (λ b. list_all (λ a. is_more (nearest a -ℤ farthest b) slack n) vs) all
+distance_refuted (HugOuter slack) n vs all =
+    list_any (λ b. list_all (λ a. is_more (nearest b -ℤ farthest a) slack n) vs) all
 
 abbrev pub surface_refuted : Surface → Demand → List Ends → List Ends → Bool
 surface_refuted (Plane direction point) demand vs all = plane_refuted demand (norm2_of direction) vs
@@ -59,9 +63,13 @@ surface_refuted (Ball point) demand vs all = distance_refuted demand (pos 1) vs 
 
 unfoldable pub condition_refuted : PlacedEnds → V3 → List Row → Condition → Bool
 condition_refuted b base rows c =
-    surface_refuted c.surface c.demand (map (ends_at b base c) (filter (belongs c) rows)) (map (ends_at b base c) (filter (is_of_feature c) rows))
+    surface_refuted c.surface c.demand
+    (map (ends_at b base c) (filter (belongs c) rows))
+    (map (ends_at b base c) (filter (is_of_feature c) rows))
 
 -- no placement of the box meets a condition that is refuted so
 abbrev pub RefutedIsUnmet : Type 0
-RefutedIsUnmet = (b : Placed) (p : Placement) (base : V3) (rows : List Row) (c : Condition) → IsPlacement p → HoldsPlacement b p → IsCondition c
+RefutedIsUnmet =
+    (b : Placed) (p : Placement) (base : V3) (rows : List Row) (c : Condition)
+    → IsPlacement p → HoldsPlacement b p → IsCondition c
     → condition_refuted (placed_ends b) base rows c ≡ true → Meets p base rows c → ⊥

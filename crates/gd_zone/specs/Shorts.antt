@@ -48,7 +48,8 @@ moved_value (Ball point) y = squares_of y
 -- the translation with the offset of a number
 abbrev pub offset_shift : PlacedEnds → ℕ → VectorEnds
 offset_shift b offset =
-    if offset == 1 then moved_formula b.shift b.first else (if offset == 2 then moved_formula b.shift b.second else b.shift)
+    if offset == 1 then moved_formula b.shift b.first
+    else (if offset == 2 then moved_formula b.shift b.second else b.shift)
 
 -- the point of a surface
 abbrev pub point_of : Surface → V3

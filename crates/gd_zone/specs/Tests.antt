@@ -1,5 +1,6 @@
 -- The written tests of a condition, on the ends of the values of its points.
-use Rattle.std.specs.Prelude.{ℕ, ℤ, zero, suc, pos, negsuc, ◌+◌, ◌*◌, ◌^◌, ◌==◌, ◌&&◌, ◌||◌, ◌-ℤ◌, ◌*ℤ◌, Bool, true, false, Option, Some, None, List, filter, map, ◌≡◌, int_le, nat_le, if◌then◌else◌}
+use Rattle.std.specs.Prelude.{ℕ, ℤ, zero, suc, pos, negsuc, ◌+◌, ◌*◌, ◌^◌, ◌==◌, ◌&&◌, ◌||◌, ◌-ℤ◌, ◌*ℤ◌, ◌≡◌}
+use Rattle.std.specs.Prelude.{Bool, true, false, Option, Some, None, List, filter, map, int_le, nat_le, if◌then◌else◌}
 use Rattle.std.specs.List.{list_all, list_any}
 use Rattle.std.specs.Ordering.{is_ge, is_le}
 use Rattle.gd_int.specs.Roots.{cmp_root_of}
@@ -60,13 +61,15 @@ abbrev pub passes : (ℤ → Bool) → Option ℤ → Bool
 passes test None = true
 passes test (Some h) = test h
 
--- ---- what holds, for a plane, and for an axis or a ball: vs are the values of the condition's points, and all those of the feature
+-- ---- what holds, for a plane, and for an axis or a ball: vs are the values of the condition's points, and all those
+-- of the feature
 abbrev pub plane_within : Option ℤ → Option ℤ → ℤ → Ends → Bool
 plane_within lo hi n e = passes (λ h. is_at_most e.hi h n) hi && passes (λ l. is_at_least e.lo l n) lo
 
 abbrev pub distance_within : Option ℤ → Option ℤ → ℤ → Ends → Bool
 distance_within lo hi n e =
-    passes (λ h. int_le (pos 0) h && int_le e.hi (square_bound h n)) hi && passes (λ l. int_le l (pos 0) || int_le (square_bound l n) e.lo) lo
+    passes (λ h. int_le (pos 0) h && int_le e.hi (square_bound h n)) hi
+    && passes (λ l. int_le l (pos 0) || int_le (square_bound l n) e.lo) lo
 
 unfoldable pub plane_holds : Demand → ℤ → List Ends → Bool
 plane_holds (Within lo hi) n vs = list_all (plane_within lo hi n) vs
@@ -79,8 +82,10 @@ unfoldable pub distance_holds : Demand → ℤ → List Ends → List Ends → B
 distance_holds (Within lo hi) n vs all = list_all (distance_within lo hi n) vs
 distance_holds (Spread t) n vs all = list_all (λ a. list_all (λ b. is_at_most (farthest a -ℤ nearest b) t n) vs) vs
 distance_holds (Contact hi) n vs all = false
-distance_holds (HugInner slack) n vs all = list_any (λ a. list_all (λ b. is_at_most (farthest a -ℤ nearest b) slack n) all) vs
-distance_holds (HugOuter slack) n vs all = list_any (λ a. list_all (λ b. is_at_most (farthest b -ℤ nearest a) slack n) all) vs
+distance_holds (HugInner slack) n vs all =
+    list_any (λ a. list_all (λ b. is_at_most (farthest a -ℤ nearest b) slack n) all) vs
+distance_holds (HugOuter slack) n vs all =
+    list_any (λ a. list_all (λ b. is_at_most (farthest b -ℤ nearest a) slack n) all) vs
 
 -- ---- a condition at a box of placements
 abbrev pub surface_holds : Surface → Demand → List Ends → List Ends → Bool
@@ -102,9 +107,13 @@ ends_at b base c row = demanded_ends c.surface c.demand b c.offset (difference r
 
 unfoldable pub condition_holds : PlacedEnds → V3 → List Row → Condition → Bool
 condition_holds b base rows c =
-    surface_holds c.surface c.demand (map (ends_at b base c) (filter (belongs c) rows)) (map (ends_at b base c) (filter (is_of_feature c) rows))
+    surface_holds c.surface c.demand
+    (map (ends_at b base c) (filter (belongs c) rows))
+    (map (ends_at b base c) (filter (is_of_feature c) rows))
 
 -- a condition that holds so is met at every placement of the box
 abbrev pub TestsAreSound : Type 0
-TestsAreSound = (b : Placed) (p : Placement) (base : V3) (rows : List Row) (c : Condition) → IsPlacement p → HoldsPlacement b p → IsCondition c
+TestsAreSound =
+    (b : Placed) (p : Placement) (base : V3) (rows : List Row) (c : Condition)
+    → IsPlacement p → HoldsPlacement b p → IsCondition c
     → condition_holds (placed_ends b) base rows c ≡ true → Meets p base rows c

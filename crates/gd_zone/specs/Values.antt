@@ -1,8 +1,10 @@
 -- The ends of the image of a point and of its value on a surface.
 use Rattle.std.specs.Prelude.{ℕ, ℤ, pos, ◌^◌, ◌*◌, ◌==◌, ◌*ℤ◌, ◌≤◌, ◌≤ℤ◌, unsigned_abs, if◌then◌else◌}
+use Rattle.gd_base.specs.Scales.{FINE}
 use Rattle.gd_interval.specs.Interval.{Inside}
 use Rattle.gd_interval.specs.declared.iv.Iv.{Iv}
-use Rattle.gd_quat.specs.Formulas.{Ends, VectorEnds, alone, difference, moved_formula, multiple, square, sum, turned_formula}
+use Rattle.gd_quat.specs.Formulas.{Ends, VectorEnds, alone, difference, moved_formula, multiple, square, sum}
+use Rattle.gd_quat.specs.Formulas.{turned_formula}
 use Rattle.gd_quat.specs.Placements.{IsPlacement, Placement, denominator_of}
 use Rattle.gd_vec.specs.declared.vector.V3.{V3}
 use Rattle.gd_zone.specs.Boxes.{HoldsPlacement, PlacedEnds}
@@ -17,11 +19,16 @@ still_image b v = moved_formula (turned_formula b.matrix v) b.shift
 
 abbrev pub image_ends : PlacedEnds → ℕ → V3 → VectorEnds
 image_ends b offset v =
-    if offset == 1 then moved_formula (still_image b v) b.first else (if offset == 2 then moved_formula (still_image b v) b.second else still_image b v)
+    if offset == 1 then moved_formula (still_image b v) b.first
+    else (if offset == 2 then moved_formula (still_image b v) b.second else still_image b v)
 
 -- less a point of the surface, in fine units
 abbrev pub from_point : VectorEnds → V3 → VectorEnds
-from_point x a = record { x = difference x.x (alone (pos (2 ^ 16) *ℤ a.x)); y = difference x.y (alone (pos (2 ^ 16) *ℤ a.y)); z = difference x.z (alone (pos (2 ^ 16) *ℤ a.z)) }
+from_point x a = record {
+  x = difference x.x (alone (pos FINE *ℤ a.x));
+  y = difference x.y (alone (pos FINE *ℤ a.y));
+  z = difference x.z (alone (pos FINE *ℤ a.z));
+}
 
 -- the sum of the products with a direction's entries
 unfoldable pub along : V3 → VectorEnds → Ends
@@ -51,9 +58,14 @@ value_ends s b offset v = surface_value s (image_ends b offset v)
 -- the interval holds the exact value: over K in fine units for a plane, and over K^2 in squares of fine units for an
 -- axis and a ball
 abbrev pub HoldsValue : Surface → Iv → Placement → ℕ → V3 → Type 0
-HoldsValue (Plane direction point) r p offset v = Inside r.lo r.hi (denominator_of p) (pos (2 ^ 16) *ℤ exact_value (Plane direction point) p offset v)
-HoldsValue (Axis direction point) r p offset v = Inside r.lo r.hi (denominator_of p * denominator_of p) (pos (2 ^ 32) *ℤ exact_value (Axis direction point) p offset v)
-HoldsValue (Ball point) r p offset v = Inside r.lo r.hi (denominator_of p * denominator_of p) (pos (2 ^ 32) *ℤ exact_value (Ball point) p offset v)
+HoldsValue (Plane direction point) r p offset v =
+    Inside r.lo r.hi (denominator_of p) (pos FINE *ℤ exact_value (Plane direction point) p offset v)
+HoldsValue (Axis direction point) r p offset v =
+    Inside r.lo r.hi (denominator_of p * denominator_of p)
+    (pos (2 ^ 32) *ℤ exact_value (Axis direction point) p offset v)
+HoldsValue (Ball point) r p offset v =
+    Inside r.lo r.hi (denominator_of p * denominator_of p)
+    (pos (2 ^ 32) *ℤ exact_value (Ball point) p offset v)
 
 abbrev pub EnclosesValue : Surface → Placed → ℕ → V3 → Iv → Type 0
 EnclosesValue s b offset v r = (p : Placement) → IsPlacement p → HoldsPlacement b p → HoldsValue s r p offset v

@@ -31,8 +31,8 @@ pub enum Demand {
 }
 
 /// A demand on the points of a feature, by the feature's number in the point table. `group` names the contact group of
-/// `Contact`, `HugInner` and `HugOuter`, where there always is one; for `Within` and `Spread` it limits the condition to
-/// the points of one group. `offset` is the offset of a placement that moves these points: 1 or 2, or 0 for none.
+/// `Contact`, `HugInner` and `HugOuter`, where there always is one; for `Within` and `Spread` it limits the condition
+/// to the points of one group. `offset` is the offset of a placement that moves these points: 1 or 2, or 0 for none.
 #[derive(Clone, Copy, Debug, PartialEq, Eq)]
 pub struct Condition {
     pub surface: Surface,

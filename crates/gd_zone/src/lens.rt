@@ -1,5 +1,6 @@
 // A box of placements as a condition looks through it: in 64 bits, and with all that is added made one.
 ghost use Rattle.std.specs.Prelude.{◌≡◌, ◌+◌, ◌^◌, ◌≤◌, ◌*ℤ◌, pos, unsigned_abs};
+ghost use Rattle.gd_base.specs.Scales.{FINE};
 ghost use Rattle.gd_quat.specs.Boxes.{Fits, VectorFits};
 ghost use Rattle.gd_quat.specs.Formulas.{alone, difference, ends, moved_formula, vector_ends};
 ghost use Rattle.gd_vec.specs.Vector.{IsWithin};
@@ -12,12 +13,10 @@ use crate::condition::{Condition, Demand, Surface};
 use crate::placed::Placed;
 use crate::shape::Lens;
 use crate::short::{short_matrix, short_vec};
+use gd_base::scales;
 use gd_interval::{Iv, point, sub};
 use gd_quat::{VecBox, moved};
 use gd_vec::V3;
-
-// A unit in fine units.
-const FINE: i128 = 1 << 16;
 
 /// The lens of a condition. For a spread along a direction nothing is added, since it cancels.
 #[inline]
@@ -132,7 +131,7 @@ fn less(x: &VecBox, a: &V3) -> VecBox
 fn less_entry(x: Iv, a: i64) -> Iv
     requires x { Fits (2 ^ 46) x }
     requires a { unsigned_abs a ≤ 2 ^ 26 }
-    ensures ends { ends result ≡ difference (ends x) (alone (pos (2 ^ 16) *ℤ a)) }
+    ensures ends { ends result ≡ difference (ends x) (alone (pos FINE *ℤ a)) }
     ensures size { Fits (2 ^ 47) result }
 {
     sub(x, point(fine(a)))
@@ -142,8 +141,8 @@ fn less_entry(x: Iv, a: i64) -> Iv
 #[inline]
 fn fine(a: i64) -> i128
     requires { unsigned_abs a ≤ 2 ^ 26 }
-    ensures value { result ≡ pos (2 ^ 16) *ℤ a }
+    ensures value { result ≡ pos FINE *ℤ a }
     ensures size { unsigned_abs result ≤ 2 ^ 42 }
 {
-    FINE * i128::from(a)
+    i128::from(scales::FINE) * i128::from(a)
 }

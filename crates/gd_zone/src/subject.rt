@@ -3,10 +3,9 @@ ghost use Rattle.std.specs.Prelude.{◌≡◌, ◌<◌, ◌≤◌, length, unsig
 ghost use Rattle.std.specs.List.{All};
 ghost use Rattle.gd_base.specs.Limits.{COORDINATE, POINTS};
 ghost use Rattle.gd_points.specs.Columns.{AreColumns};
-ghost use Rattle.gd_points.specs.Index.{numbers_where};
+ghost use Rattle.gd_points.specs.Index.{numbers_where, row_at};
 ghost use Rattle.gd_vec.specs.Vector.{IsWithin};
 ghost use Rattle.gd_zone.specs.Conditions.{belongs, is_of_feature};
-ghost use Rattle.gd_zone.specs.Extremes.{row_at};
 
 use crate::condition::Condition;
 use gd_points::{Columns, PointIndex};

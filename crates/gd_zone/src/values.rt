@@ -17,9 +17,9 @@ use crate::short::{apart, moved, scaled, total, turned, widened};
 use gd_interval::{Iv, add};
 use gd_vec::V3;
 
-/// The value of a point at every placement of a box. For a plane it is the distance times the direction's length, in fine
-/// units; for an axis and a ball the squared distance times the direction's squared length, in squares of fine units.
-/// `v` is the point less the part's first point, in units.
+/// The value of a point at every placement of a box. For a plane it is the distance times the direction's length, in
+/// fine units; for an axis and a ball the squared distance times the direction's squared length, in squares of fine
+/// units. `v` is the point less the part's first point, in units.
 #[inline]
 pub fn value(surface: &Surface, placed: &Placed, offset: u32, v: &V3) -> Iv
     requires surface { IsSurface surface.now }

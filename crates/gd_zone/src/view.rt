@@ -1,11 +1,12 @@
 // The points of a condition, as a box of placements shows them.
 ghost use Rattle.std.specs.Prelude.{◌≡◌, ◌<◌, ◌≤◌, ◌^◌, ◌-ℤ◌, length, unsigned_abs};
 ghost use Rattle.gd_base.specs.Limits.{COORDINATE};
+ghost use Rattle.gd_points.specs.Index.{row_at};
 ghost use Rattle.gd_quat.specs.Formulas.{ends};
 ghost use Rattle.gd_vec.specs.Vector.{IsWithin, difference};
 ghost use Rattle.gd_zone.specs.Boxes.{IsPlaced, placed_ends};
 ghost use Rattle.gd_zone.specs.Conditions.{IsCondition, IsSurface};
-ghost use Rattle.gd_zone.specs.Extremes.{ends_by, row_at};
+ghost use Rattle.gd_zone.specs.Extremes.{ends_by};
 ghost use Rattle.gd_zone.specs.Shorts.{IsLens, moves_of};
 ghost use Rattle.gd_zone.specs.Values.{IsSized};
 

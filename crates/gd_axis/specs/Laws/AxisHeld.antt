@@ -4,6 +4,7 @@ use Rattle.std.proofs.lemmas.Int.{ints, clamps}
 use Rattle.std.specs.Int.{int_max}
 use Rattle.std.proofs.Math.Nat.{mul-pos}
 use Rattle.std.specs.Prelude.{ℤ, pos, ◌+ℤ◌, ◌-ℤ◌, ◌*ℤ◌, ◌≤ℤ◌, ◌<ℤ◌}
+use Rattle.gd_axis.specs.Sizes.{UNIT_SQUARE}
 use Rattle.gd_base.specs.Scales.{FINE, ONE}
 use Rattle.gd_dir.specs.Boxes.{HoldsOffset}
 use Rattle.gd_dir.specs.declared.shape.DirBox.{DirBox}
@@ -125,7 +126,7 @@ entries-held bits b k n h = record { x = h.x; y = h.y; z = h.z }
 -- ---- the value of a point, and the direction's squared length
 pub value-inside : (shape : FormShape) (b : DirBox) (a p : V3) (x : Axis) (h : HoldsAxis shape b x)
     → Inside (value_of shape b a p).lo (value_of shape b a p).hi ((h.lead * x.scale) * (h.lead * x.scale))
-    (pos (2 ^ 32) *ℤ distance2 x a p)
+    (pos UNIT_SQUARE *ℤ distance2 x a p)
 value-inside shape b a p x h =
     squares-inside (pos FINE) (cross x.direction (from_axis x a p))
     (across (bits_of shape) (direction_ends b) (from_offset b a p)) (h.lead * x.scale)
@@ -134,31 +135,31 @@ value-inside shape b a p x h =
 
 ratio-length : (b : DirBox) (k : ℕ) (n : V3) → HoldsEntries 30 b k n
     → Inside (narrowed (squares_of (direction_ends b)) 28).lo (narrowed (squares_of (direction_ends b)) 28).hi (k * k)
-    (pos (2 ^ 32) *ℤ norm2_of n)
+    (pos UNIT_SQUARE *ℤ norm2_of n)
 ratio-length b k n h =
     let q : Ends = squares_of (direction_ends b) in
     let m : ℤ = norm2_of n in
-    let g : (pos ONE *ℤ pos ONE) *ℤ m ≡ (pos (2 ^ 32) *ℤ m) *ℤ pos (2 ^ 28) =
-    equal (m ∷ []) (num (pos (2 ^ 60)) ⊗ var 0) ((num (pos (2 ^ 32)) ⊗ var 0) ⊗ num (pos (2 ^ 28))) refl in
-    cut (narrowed q 28).lo (narrowed q 28).hi (pos (2 ^ 32) *ℤ m) (k * k) (2 ^ 28) (power_is_positive 28)
-    (narrowed_inside q.lo q.hi 28 (k * k) ((pos (2 ^ 32) *ℤ m) *ℤ pos (2 ^ 28))
+    let g : (pos ONE *ℤ pos ONE) *ℤ m ≡ (pos UNIT_SQUARE *ℤ m) *ℤ pos (2 ^ 28) =
+    equal (m ∷ []) (num (pos (2 ^ 60)) ⊗ var 0) ((num (pos UNIT_SQUARE) ⊗ var 0) ⊗ num (pos (2 ^ 28))) refl in
+    cut (narrowed q 28).lo (narrowed q 28).hi (pos UNIT_SQUARE *ℤ m) (k * k) (2 ^ 28) (power_is_positive 28)
+    (narrowed_inside q.lo q.hi 28 (k * k) ((pos UNIT_SQUARE *ℤ m) *ℤ pos (2 ^ 28))
     (subst (λ t. Inside q.lo q.hi (k * k) t) g (squares-inside (pos ONE) n (direction_ends b) k
     (entries-held 30 b k n h))))
 
 whole-length : (b : DirBox) (k : ℕ) (n : V3) → HoldsEntries 0 b k n
-    → Inside (multiple (squares_of (direction_ends b)) (pos (2 ^ 32))).lo
-    (multiple (squares_of (direction_ends b)) (pos (2 ^ 32))).hi (k * k) (pos (2 ^ 32) *ℤ norm2_of n)
+    → Inside (multiple (squares_of (direction_ends b)) (pos UNIT_SQUARE)).lo
+    (multiple (squares_of (direction_ends b)) (pos UNIT_SQUARE)).hi (k * k) (pos UNIT_SQUARE *ℤ norm2_of n)
 whole-length b k n h =
     let q : Ends = squares_of (direction_ends b) in
     let m : ℤ = norm2_of n in
-    let g : ((pos 1 *ℤ pos 1) *ℤ m) *ℤ pos (2 ^ 32) ≡ pos (2 ^ 32) *ℤ m =
-    equal (m ∷ []) ((num (pos 1) ⊗ var 0) ⊗ num (pos (2 ^ 32))) (num (pos (2 ^ 32)) ⊗ var 0) refl in
-    subst (λ t. Inside (multiple q (pos (2 ^ 32))).lo (multiple q (pos (2 ^ 32))).hi (k * k) t) g
-    (multiple_inside q.lo q.hi (pos (2 ^ 32)) (k * k) ((pos 1 *ℤ pos 1) *ℤ m)
+    let g : ((pos 1 *ℤ pos 1) *ℤ m) *ℤ pos UNIT_SQUARE ≡ pos UNIT_SQUARE *ℤ m =
+    equal (m ∷ []) ((num (pos 1) ⊗ var 0) ⊗ num (pos UNIT_SQUARE)) (num (pos UNIT_SQUARE) ⊗ var 0) refl in
+    subst (λ t. Inside (multiple q (pos UNIT_SQUARE)).lo (multiple q (pos UNIT_SQUARE)).hi (k * k) t) g
+    (multiple_inside q.lo q.hi (pos UNIT_SQUARE) (k * k) ((pos 1 *ℤ pos 1) *ℤ m)
     (squares-inside (pos 1) n (direction_ends b) k (entries-held 0 b k n h)))
 
 pub length-inside : (shape : FormShape) (b : DirBox) (x : Axis) (h : HoldsAxis shape b x)
-    → Inside (length2_of shape b).lo (length2_of shape b).hi (h.lead * h.lead) (pos (2 ^ 32) *ℤ norm2_of x.direction)
+    → Inside (length2_of shape b).lo (length2_of shape b).hi (h.lead * h.lead) (pos UNIT_SQUARE *ℤ norm2_of x.direction)
 length-inside Flat b x h = ratio-length b h.lead x.direction h.direction
 length-inside Line b x h = ratio-length b h.lead x.direction h.direction
 length-inside Circle b x h = whole-length b h.lead x.direction h.direction
@@ -212,16 +213,16 @@ narrow-sign b k n p h =
     floor-sign (squares_of (direction_ends b)).lo (pos (2 ^ 28)) (power_is_positive 28) (direction-sign 30 b k n p h)
 
 multiple-sign : (b : DirBox) (k : ℕ) (n : V3) → 1 ≤ k → HoldsEntries 0 b k n
-    → pos 0 ≤ℤ (multiple (squares_of (direction_ends b)) (pos (2 ^ 32))).lo
+    → pos 0 ≤ℤ (multiple (squares_of (direction_ends b)) (pos UNIT_SQUARE)).lo
 multiple-sign b k n p h =
     let q : Ends = squares_of (direction_ends b) in
     let o : q.lo ≤ℤ q.hi =
     ordered-from q.lo q.hi ((pos 1 *ℤ pos 1) *ℤ norm2_of n) (k * k) (mul-pos p p)
     (squares-inside (pos 1) n (direction_ends b) k (entries-held 0 b k n h)) in
-    scale_lo-reached (λ v. pos 0 ≤ℤ v) q.lo q.hi (pos (2 ^ 32)) o
+    scale_lo-reached (λ v. pos 0 ≤ℤ v) q.lo q.hi (pos UNIT_SQUARE) o
     (λ x l u. grown x (≤ℤ_trans (pos 0) q.lo x (direction-sign 0 b k n p h) l))
   where
-    grown : (x : ℤ) → pos 0 ≤ℤ x → pos 0 ≤ℤ (x *ℤ pos (2 ^ 32))
+    grown : (x : ℤ) → pos 0 ≤ℤ x → pos 0 ≤ℤ (x *ℤ pos UNIT_SQUARE)
     grown x g = omega (arith, ints, g)
 
 pub length-sign : (shape : FormShape) (b : DirBox) (x : Axis) → HoldsAxis shape b x → pos 0 ≤ℤ (length2_of shape b).lo
@@ -234,7 +235,7 @@ pub length-top : (shape : FormShape) (b : DirBox) (x : Axis) → HoldsAxis shape
 length-top shape b x h =
     let e : Ends = length2_of shape b in
     ≤ℤ_trans (pos 0) e.lo e.hi (length-sign shape b x h)
-    (ordered-from e.lo e.hi (pos (2 ^ 32) *ℤ norm2_of x.direction) (h.lead * h.lead) (mul-pos h.leads h.leads)
+    (ordered-from e.lo e.hi (pos UNIT_SQUARE *ℤ norm2_of x.direction) (h.lead * h.lead) (mul-pos h.leads h.leads)
     (length-inside shape b x h))
 
 pub value-top : (shape : FormShape) (b : DirBox) (a p : V3) → pos 0 ≤ℤ (value_of shape b a p).hi
