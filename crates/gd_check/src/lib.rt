@@ -6,8 +6,6 @@ mod decide;
 mod group;
 mod laws;
 mod rule;
-#[cfg(test)]
-mod tests;
 mod tree;
 
 pub use answer::CheckAnswer;

@@ -3,13 +3,9 @@
 
 mod combination;
 mod counts;
-#[cfg(test)]
-mod file_tests;
 mod groups;
 mod needs;
 mod read;
-#[cfg(test)]
-mod tests;
 
 pub use counts::{is_joined, joins};
 pub use gd_tables::{

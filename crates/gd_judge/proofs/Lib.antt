@@ -1,4 +1,5 @@
 pub mod Judging
+pub mod KeptLines
 pub mod Leaves
 pub mod Meant
 pub mod Sizes

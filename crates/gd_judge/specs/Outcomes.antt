@@ -1,5 +1,5 @@
 -- What the steps of the judging need.
-use Rattle.std.specs.Prelude.{◌≤◌, ◌<◌, ◌^◌, List, map}
+use Rattle.std.specs.Prelude.{ℕ, ◌≤◌, ◌<◌, ◌^◌, List, map}
 use Rattle.gd_cells.specs.Meaning.{Questions}
 use Rattle.gd_cert.specs.Certificates.{Body, body_of}
 use Rattle.gd_cert.specs.declared.cert.CertGroup.{CertGroup}
@@ -20,3 +20,7 @@ HasFewLeaves (StillOpen tree counts) = Unit {0}
 -- the bodies of some groups
 abbrev pub bodies_in : List CertGroup → List Body
 bodies_in groups = map (λ (group : CertGroup). body_of group.body) groups
+
+-- the lines on which some groups begin
+abbrev pub lines_in : List CertGroup → List ℕ
+lines_in groups = map (λ (group : CertGroup). group.line) groups

@@ -1,14 +1,14 @@
 // The verdicts of several tasks.
-ghost use Rattle.std.specs.Prelude.{◌≡◌, ◌≤◌, ◌<◌, IfOk, length, map};
+ghost use Rattle.std.specs.Prelude.{◌≡◌, ◌≤◌, ◌<◌, ◌+◌, ◌*◌, ◌^◌, IfOk, length, map};
 ghost use Rattle.std.specs.List.{All};
 ghost use Rattle.gd_base.specs.Limits.{BUDGET, FILE_BYTES, GROUPS};
 ghost use Rattle.gd_cert.specs.Bounds.{IsInBounds};
 ghost use Rattle.gd_cert.specs.Certificates.{body_of, certificate_of};
-ghost use Rattle.gd_cert.specs.Text.{text};
+ghost use Rattle.gd_cert.specs.Text.{KeepsLines, body_lines, first_lines, text};
 ghost use Rattle.gd_check.specs.Right.{IsRight};
 ghost use Rattle.gd_judge.specs.Judged.{AreJudged, AreOfTasks, IsJudged};
 ghost use Rattle.gd_judge.specs.Means.{AreMeant};
-ghost use Rattle.gd_judge.specs.Outcomes.{bodies_in, HasNumbers};
+ghost use Rattle.gd_judge.specs.Outcomes.{bodies_in, lines_in, HasNumbers};
 
 use crate::body::{body_of_outcome, verdict_of_outcome};
 use gd_base::{Memory, Verdict};
@@ -49,7 +49,8 @@ fn judge_task<R: Threads + Sync, T: Task>(
     share: u32,
 ) -> Result<Judged, Memory>
     requires { share ≤ BUDGET }
-    ensures { IfOk result (λ j. IsJudged (T.questions task.now) share j.verdict (body_of j.body)) }
+    ensures judged { IfOk result (λ j. IsJudged (T.questions task.now) share j.verdict (body_of j.body)) }
+    ensures few { IfOk result (λ j. length (body_lines (body_of j.body)) ≤ 2 * share + 5) }
 {
     show_laws::<T>();
     let outcome = search(rt, alloc, task, share)?;
@@ -59,14 +60,16 @@ fn judge_task<R: Threads + Sync, T: Task>(
 }
 
 // The line of the group behind one that begins on a line.
-fn line_after(line: u32, body: &CertBody) -> u32 {
+fn line_after(line: u32, body: &CertBody) -> u32
+    requires { line + 1 + length (body_lines (body_of body.now)) < 2 ^ 32 }
+    ensures { result ≡ line + 1 + length (body_lines (body_of body.now)) }
+{
     let lines = match body {
         CertBody::Accept { .. } => 1,
         CertBody::Reject { tree } => tree.len(),
-        CertBody::StillOpen { tree, .. } => tree.len().saturating_add(1),
+        CertBody::StillOpen { tree, .. } => tree.len() + 1,
     };
-    let more = u32::try_from(lines).unwrap_or(u32::MAX);
-    line.saturating_add(1).saturating_add(more)
+    line + 1 + lines as u32
 }
 
 // Each task by itself, in order.
@@ -76,9 +79,12 @@ fn judge_each<R: Threads + Sync, T: Task>(
     tasks: &[T],
     share: u32,
 ) -> Result<Groups, Memory>
-    requires { share ≤ BUDGET }
-    ensures { IfOk result
+    requires budget { share * length tasks.now ≤ BUDGET }
+    requires small { share ≤ BUDGET }
+    requires few { length tasks.now ≤ GROUPS }
+    ensures judged { IfOk result
         (λ g. AreJudged (map T.questions tasks.now) share g.verdicts.items (bodies_in g.groups.items)) }
+    ensures lines { IfOk result (λ g. lines_in g.groups.items ≡ first_lines 5 (bodies_in g.groups.items)) }
 {
     let mut verdicts = Vec::with_capacity(alloc, tasks.len())?;
     let mut groups = Vec::with_capacity(alloc, tasks.len())?;
@@ -100,8 +106,8 @@ fn judge_each<R: Threads + Sync, T: Task>(
 ///
 /// There is a task at least, and no more than a certificate states; each has two numbers in a witness or more.
 /// `verdicts` says that each verdict is the task's own at the share, and that the certificate's groups show them;
-/// `right` and `fits` that the certificate is right and can be written and read; `means` what the verdicts say of the
-/// tasks' assignments.
+/// `right` and `fits` that the certificate is right and can be written and read; `lines` that its groups keep their lines;
+/// `means` what the verdicts say of the tasks' assignments.
 pub fn judge_tasks<R: Threads + Sync, T: Task>(
     rt: &R,
     alloc: Global,
@@ -117,6 +123,7 @@ pub fn judge_tasks<R: Threads + Sync, T: Task>(
     ensures right { IfOk result (λ j. IsRight (map T.questions tasks.now) (certificate_of j.certificate)) }
     ensures fits { IfOk result (λ j. IsInBounds (certificate_of j.certificate)
         × (length (text (certificate_of j.certificate)) ≤ FILE_BYTES)) }
+    ensures lines { IfOk result (λ j. KeepsLines j.certificate) }
     ensures means { IfOk result (λ j. AreMeant T.questions T.feasible T.assignment tasks.now
         (certificate_of j.certificate).share j.verdicts.items (certificate_of j.certificate).groups) }
 {

@@ -12,12 +12,12 @@ use Rattle.gd_flat.specs.FlatTask.{questions_of}
 use Rattle.gd_points.specs.Table.{Table}
 use Rattle.gd_report.specs.Said.{Said, status_of}
 use Rattle.gd_run.specs.Answers.{Answer, Store, only_said, said_of_certificate, said_of_wrong, said_under, stores_to}
-use Rattle.gd_run.specs.Asks.{Ask, Asks, ForCheck, ForFlat, IsAskOf, IsJob, IsSpelled, store_of}
-use Rattle.gd_run.specs.CheckCommand.{Check, IsCheckAnswer, IsCheckRange, check_words}
+use Rattle.gd_run.specs.Asks.{Ask, Asks, ForCheckFlat, ForFlat, IsAskOf, IsJob, IsSpelled, store_of}
+use Rattle.gd_run.specs.CheckFlatCommand.{CheckFlat, IsCheckFlatAnswer, IsCheckFlatRange, check_flat_words}
 use Rattle.gd_run.specs.FlatCommand.{Flat, IsFlatAnswer, IsFlatRange, flat_words, said_of_end}
-use Rattle.gd_run.specs.Inputs.{Given, IsRefusal}
+use Rattle.gd_run.specs.Inputs.{Given}
 use Rattle.gd_run.specs.Runs.{IsAnswerOf}
-use Rattle.gd_run.specs.Views.{ask_of, flat_of}
+use Rattle.gd_run.specs.Views.{flat_of}
 use Rattle.gd_run.specs.declared.flat.FlatCommand.{FlatCommand}
 use Rattle.gd_verdict.specs.Verdict.{End, Accepted, Rejected, Open}
 
@@ -36,7 +36,7 @@ pub asks_flat : (rest : List (List ℕ)) (c : Option FlatCommand) → IsSpelled 
 asks_flat rest (Some c) h = record { spelled = h.0; range = h.1 }
 asks_flat rest None h = λ ask. elim ask as (λ a. IsAskOf (codes "flat" ∷ rest) (Some a) → ⊥) [
   | ForFlat flat ↦ λ asks. h flat asks.spelled asks.range
-  | ForCheck check ↦ λ asks. let no = asks.spelled in cc
+  | ForCheckFlat check ↦ λ asks. let no = asks.spelled in cc
 ]
 
 -- ---- an answer from what was read
@@ -72,19 +72,19 @@ flat_table : (flat : Flat) (t : Option Table) (a : Answer) → IsSomeAnd t (λ t
 flat_table flat (Some table) a job = flat_possible flat job.0 _ a job.2
 flat_table flat None a job = absurd job
 
-check_certificate : (check : Check) (table : Table) (c : Option Certificate) (a : Answer) → IsSomeAnd c (λ d. IsCheckAnswer check table d a) → IsAnswerOf (ForCheck check) a
-check_certificate check table (Some c) a job =
+check_flat_certificate : (check : CheckFlat) (table : Table) (c : Option Certificate) (a : Answer) → IsSomeAnd c (λ d. IsCheckFlatAnswer check table d a) → IsAnswerOf (ForCheckFlat check) a
+check_flat_certificate check table (Some c) a job =
     let qs : List Questions = questions_of table.rows check.tolerance ∷ [] in
-    only_possible (ForCheck check) (said_of_certificate qs c) a (under_ending qs c.heading c) job
-check_certificate check table None a job = absurd job
+    only_possible (ForCheckFlat check) (said_of_certificate qs c) a (under_ending qs c.heading c) job
+check_flat_certificate check table None a job = absurd job
 
-check_table : (check : Check) (t : Option Table) (c : Option Certificate) (a : Answer) → IsSomeAnd t (λ table. IsSomeAnd c (λ d. IsCheckAnswer check table d a)) → IsAnswerOf (ForCheck check) a
-check_table check (Some table) c a job = check_certificate check table c a job
-check_table check None c a job = absurd job
+check_flat_table : (check : CheckFlat) (t : Option Table) (c : Option Certificate) (a : Answer) → IsSomeAnd t (λ table. IsSomeAnd c (λ d. IsCheckFlatAnswer check table d a)) → IsAnswerOf (ForCheckFlat check) a
+check_flat_table check (Some table) c a job = check_flat_certificate check table c a job
+check_flat_table check None c a job = absurd job
 
 pub job_possible : (ask : Ask) (given : Given) (a : Answer) → IsJob ask given a → IsAnswerOf ask a
 job_possible (ForFlat flat) given a job = flat_table flat given.table a job
-job_possible (ForCheck check) given a job = check_table check given.table given.certificate a job
+job_possible (ForCheckFlat check) given a job = check_flat_table check given.table given.certificate a job
 
 -- ---- words are of one command at most
 same_option : (a b : Option (List ℕ)) → option_to_list a ≡ option_to_list b → a ≡ b
@@ -110,21 +110,21 @@ same_flat a b x y both =
     ∙ ap (λ n. flat_with b.points b.tolerance n a.certificate) budget
     ∙ ap (flat_with b.points b.tolerance b.budget) certificate
 
-abbrev check_with : List ℕ → ℕ → List ℕ → Check
-check_with points tolerance certificate = record { points = points; tolerance = tolerance; certificate = certificate }
+abbrev check_flat_with : List ℕ → ℕ → List ℕ → CheckFlat
+check_flat_with points tolerance certificate = record { points = points; tolerance = tolerance; certificate = certificate }
 
-same_check : (a b : Check) → IsCheckRange a → IsCheckRange b → check_words a ≡ check_words b → a ≡ b
-same_check a b x y both =
+same_check_flat : (a b : CheckFlat) → IsCheckFlatRange a → IsCheckFlatRange b → check_flat_words a ≡ check_flat_words b → a ≡ b
+same_check_flat a b x y both =
     let points : a.points ≡ b.points = cc in
     let t : decimal a.tolerance ≡ decimal b.tolerance = cc in
     let certificate : a.certificate ≡ b.certificate = cc in
     let tolerance : a.tolerance ≡ b.tolerance = decimal_injective a.tolerance b.tolerance (omega (arith, x)) (omega (arith, y)) t in
-    ap (λ p. check_with p a.tolerance a.certificate) points
-    ∙ ap (λ n. check_with b.points n a.certificate) tolerance
-    ∙ ap (check_with b.points b.tolerance) certificate
+    ap (λ p. check_flat_with p a.tolerance a.certificate) points
+    ∙ ap (λ n. check_flat_with b.points n a.certificate) tolerance
+    ∙ ap (check_flat_with b.points b.tolerance) certificate
 
 pub same_ask : (words : List (List ℕ)) (a b : Ask) → Asks words a → Asks words b → a ≡ b
 same_ask words (ForFlat a) (ForFlat b) x y = ap ForFlat (same_flat a b x.range y.range (sym x.spelled ∙ y.spelled))
-same_ask words (ForCheck a) (ForCheck b) x y = ap ForCheck (same_check a b x.range y.range (sym x.spelled ∙ y.spelled))
-same_ask words (ForFlat a) (ForCheck b) x y = let both = sym x.spelled ∙ y.spelled in let no : codes "flat" ≡ codes "checkflat" = cc in cc
-same_ask words (ForCheck a) (ForFlat b) x y = let both = sym x.spelled ∙ y.spelled in let no : codes "checkflat" ≡ codes "flat" = cc in cc
+same_ask words (ForCheckFlat a) (ForCheckFlat b) x y = ap ForCheckFlat (same_check_flat a b x.range y.range (sym x.spelled ∙ y.spelled))
+same_ask words (ForFlat a) (ForCheckFlat b) x y = let both = sym x.spelled ∙ y.spelled in let no : codes "flat" ≡ codes "checkflat" = cc in cc
+same_ask words (ForCheckFlat a) (ForFlat b) x y = let both = sym x.spelled ∙ y.spelled in let no : codes "checkflat" ≡ codes "flat" = cc in cc

@@ -1,8 +1,7 @@
 -- The laws of certificates for flatness.
-use Rattle.std.proofs.Common.{arith, ◌≡◌, refl, ℕ, ◌*◌, ◌+◌, ◌≤◌, ◌<◌, List, [], ◌∷◌, None, length}
+use Rattle.std.proofs.Common.{arith, ◌≡◌, refl, ℕ, ◌≤◌, ◌<◌, List, [], ◌∷◌, None, length}
 use Rattle.std.proofs.lemmas.List.Elements.{All-cons, All-nil}
 use Rattle.gd_base.specs.Limits.{BUDGET, FILE_BYTES, POINTS}
-use Rattle.gd_cells.specs.Meaning.{Questions}
 use Rattle.gd_cert.proofs.Sizes.{one_group_is_short}
 use Rattle.gd_cert.specs.Bounds.{BodyFits, IsInBounds}
 use Rattle.gd_cert.specs.Certificates.{Body, Certificate}

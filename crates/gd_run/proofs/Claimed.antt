@@ -16,7 +16,7 @@ use Rattle.gd_cert.specs.Text.{text}
 use Rattle.gd_cert.specs.declared.fault.CertFault.{CertFault}
 use Rattle.gd_check.specs.Right.{AreRightBodies, IsRight, IsRightBody}
 use Rattle.gd_check.specs.Wrong.{first_wrong}
-use Rattle.gd_flat.specs.FlatTask.{IsFeasible, IsInside, assignment_of, direction_at, questions_of}
+use Rattle.gd_flat.specs.FlatTask.{assignment_of, direction_at, questions_of}
 use Rattle.gd_flat.specs.Flatness.{IsFlatAlong}
 use Rattle.gd_flat.specs.Laws.Task.{flat_laws}
 use Rattle.gd_points.proofs.Tables.{table_has_few, table_has_row}
@@ -26,10 +26,10 @@ use Rattle.gd_points.specs.declared.table.Row.{Row}
 use Rattle.gd_report.specs.Said.{Said, invalid, refused, status_of}
 use Rattle.gd_report.specs.Texts.{invalid_text, valid_text}
 use Rattle.gd_run.proofs.Certified.{end_in_bounds, end_is_short, flat_right, flat_true, flat_verdict_is_right, right_flat}
-use Rattle.gd_run.specs.Answers.{Answer, Store, certificate_of_end, only_said, said_of_certificate, said_of_wrong, said_under, stores_to}
-use Rattle.gd_run.specs.Asks.{Ask, Asks, ForCheck, ForFlat}
-use Rattle.gd_run.specs.CheckCommand.{Check, IsCheckAnswer}
-use Rattle.gd_run.specs.Claims.{HasTable, IsAccept, IsFlatNowhere, IsInvalid, IsReject, IsTrueFor, IsValid, IsValidFor, SaysOfPoints}
+use Rattle.gd_run.specs.Answers.{Answer, certificate_of_end, only_said, said_of_certificate, said_of_wrong, said_under}
+use Rattle.gd_run.specs.Asks.{Asks, ForCheckFlat, ForFlat}
+use Rattle.gd_run.specs.CheckFlatCommand.{CheckFlat, IsCheckFlatAnswer}
+use Rattle.gd_run.specs.Claims.{HasTable, IsAccept, IsFlatNowhere, IsInvalid, IsOpen, IsReject, IsTrueFor, IsValid, IsValidFor, SaysOfPoints}
 use Rattle.gd_run.specs.FlatCommand.{Flat, IsFlatAnswer, said_of_end}
 use Rattle.gd_run.specs.Inputs.{Given, and_reads, certificate_file, is_long, nothing_given, points_file, with_certificate, with_points}
 use Rattle.gd_run.specs.Runs.{IsAnswer, IsAnswerFrom, IsAnswerTo}
@@ -122,39 +122,39 @@ pub flat_read : (files : Files) (flat : Flat) (a : Answer) → IsAnswerTo (ForFl
 flat_read files flat a is = flat_of_held files flat (files flat.points) refl a is
 
 -- `checkflat` has a table and a certificate, or a table and the fault of a certificate, or was refused
-data CheckRead (files : Files) (check : Check) (a : Answer) : Type 0 where
-  Decided : (input : HasTable files check.points) (bytes : List ℕ) → files check.certificate ≡ Some bytes → (c : Certificate) → certificate_file bytes ≡ Ok c → IsCheckAnswer check input.table c a → CheckRead files check a
-  Unreadable : (input : HasTable files check.points) (bytes : List ℕ) → files check.certificate ≡ Some bytes → (f : CertFault) → certificate_file bytes ≡ Err f → a ≡ only_said (invalid f.line f.code) → CheckRead files check a
-  Unread : (f : InputFault) → a ≡ only_said (refused check.points f) → CheckRead files check a
+data CheckFlatRead (files : Files) (check : CheckFlat) (a : Answer) : Type 0 where
+  Decided : (input : HasTable files check.points) (bytes : List ℕ) → files check.certificate ≡ Some bytes → (c : Certificate) → certificate_file bytes ≡ Ok c → IsCheckFlatAnswer check input.table c a → CheckFlatRead files check a
+  Unreadable : (input : HasTable files check.points) (bytes : List ℕ) → files check.certificate ≡ Some bytes → (f : CertFault) → certificate_file bytes ≡ Err f → a ≡ only_said (invalid f.line f.code) → CheckFlatRead files check a
+  Unread : (f : InputFault) → a ≡ only_said (refused check.points f) → CheckFlatRead files check a
 
 abbrev given_table : Table → Given
-given_table table = record { table = Some table; certificate = None }
+given_table table = record { table = Some table; frames = None; certificate = None }
 
-check_of_file : (files : Files) (check : Check) (input : HasTable files check.points) (bytes : List ℕ) → files check.certificate ≡ Some bytes → (file : Result Certificate CertFault) → certificate_file bytes ≡ file → (a : Answer)
-    → IsSomeAnd (and_reads (with_certificate (given_table input.table) file) (λ g. Some (Ok g))) (λ read. IsAnswerFrom (ForCheck check) read a) → CheckRead files check a
-check_of_file files check input bytes held (Ok c) read a is = Decided input bytes held c read is
-check_of_file files check input bytes held (Err f) read a is = Unreadable input bytes held f read is
+check_flat_of_file : (files : Files) (check : CheckFlat) (input : HasTable files check.points) (bytes : List ℕ) → files check.certificate ≡ Some bytes → (file : Result Certificate CertFault) → certificate_file bytes ≡ file → (a : Answer)
+    → IsSomeAnd (and_reads (with_certificate (given_table input.table) file) (λ g. Some (Ok g))) (λ read. IsAnswerFrom (ForCheckFlat check) read a) → CheckFlatRead files check a
+check_flat_of_file files check input bytes held (Ok c) read a is = Decided input bytes held c read is
+check_flat_of_file files check input bytes held (Err f) read a is = Unreadable input bytes held f read is
 
-check_of_held : (files : Files) (check : Check) (input : HasTable files check.points) (held : Option (List ℕ)) → files check.certificate ≡ held → (a : Answer)
-    → IsSomeAnd (option_and_then (λ bytes. and_reads (with_certificate (given_table input.table) (certificate_file bytes)) (λ g. Some (Ok g))) held) (λ read. IsAnswerFrom (ForCheck check) read a) → CheckRead files check a
-check_of_held files check input None held a is = absurd is
-check_of_held files check input (Some bytes) held a is = check_of_file files check input bytes held (certificate_file bytes) refl a is
+check_flat_of_held : (files : Files) (check : CheckFlat) (input : HasTable files check.points) (held : Option (List ℕ)) → files check.certificate ≡ held → (a : Answer)
+    → IsSomeAnd (option_and_then (λ bytes. and_reads (with_certificate (given_table input.table) (certificate_file bytes)) (λ g. Some (Ok g))) held) (λ read. IsAnswerFrom (ForCheckFlat check) read a) → CheckFlatRead files check a
+check_flat_of_held files check input None held a is = absurd is
+check_flat_of_held files check input (Some bytes) held a is = check_flat_of_file files check input bytes held (certificate_file bytes) refl a is
 
-abbrev rest_of : Files → Check → Given → Option (Result Given Said)
+abbrev rest_of : Files → CheckFlat → Given → Option (Result Given Said)
 rest_of files check g = option_and_then (λ bytes. and_reads (with_certificate g (certificate_file bytes)) (λ h. Some (Ok h))) (files check.certificate)
 
-check_of_points : (files : Files) (check : Check) (bytes : List ℕ) → files check.points ≡ Some bytes → (file : Result Table InputFault) → points_file bytes ≡ file → (a : Answer)
-    → IsSomeAnd (and_reads (with_points nothing_given check.points file) (rest_of files check)) (λ read. IsAnswerFrom (ForCheck check) read a) → CheckRead files check a
-check_of_points files check bytes held (Ok table) read a is = check_of_held files check (record { bytes = bytes; held = held; table = table; read = read }) (files check.certificate) refl a is
-check_of_points files check bytes held (Err f) read a is = Unread f is
+check_flat_of_points : (files : Files) (check : CheckFlat) (bytes : List ℕ) → files check.points ≡ Some bytes → (file : Result Table InputFault) → points_file bytes ≡ file → (a : Answer)
+    → IsSomeAnd (and_reads (with_points nothing_given check.points file) (rest_of files check)) (λ read. IsAnswerFrom (ForCheckFlat check) read a) → CheckFlatRead files check a
+check_flat_of_points files check bytes held (Ok table) read a is = check_flat_of_held files check (record { bytes = bytes; held = held; table = table; read = read }) (files check.certificate) refl a is
+check_flat_of_points files check bytes held (Err f) read a is = Unread f is
 
-check_of_first : (files : Files) (check : Check) (held : Option (List ℕ)) → files check.points ≡ held → (a : Answer)
-    → IsSomeAnd (option_and_then (λ bytes. and_reads (with_points nothing_given check.points (points_file bytes)) (rest_of files check)) held) (λ read. IsAnswerFrom (ForCheck check) read a) → CheckRead files check a
-check_of_first files check None held a is = absurd is
-check_of_first files check (Some bytes) held a is = check_of_points files check bytes held (points_file bytes) refl a is
+check_flat_of_first : (files : Files) (check : CheckFlat) (held : Option (List ℕ)) → files check.points ≡ held → (a : Answer)
+    → IsSomeAnd (option_and_then (λ bytes. and_reads (with_points nothing_given check.points (points_file bytes)) (rest_of files check)) held) (λ read. IsAnswerFrom (ForCheckFlat check) read a) → CheckFlatRead files check a
+check_flat_of_first files check None held a is = absurd is
+check_flat_of_first files check (Some bytes) held a is = check_flat_of_points files check bytes held (points_file bytes) refl a is
 
-check_read : (files : Files) (check : Check) (a : Answer) → IsAnswerTo (ForCheck check) files a → CheckRead files check a
-check_read files check a is = check_of_first files check (files check.points) refl a is
+check_flat_read : (files : Files) (check : CheckFlat) (a : Answer) → IsAnswerTo (ForCheckFlat check) files a → CheckFlatRead files check a
+check_flat_read files check a is = check_flat_of_first files check (files check.points) refl a is
 
 -- ---- what is said of a certificate
 no_fault : (o : Option CertFault) → status_of (said_of_wrong o).ending ≡ 0 → o ≡ None
@@ -185,13 +185,14 @@ under_states : (qs : List Questions) (h : Heading) (c : Certificate) → status_
 under_states qs Plain c h = wrong_states (first_wrong qs c) h
 under_states qs (Probe name tolerance) c h = record { line = 2; code = 55; text = refl }
 
-wrong_not_one : (o : Option CertFault) → status_of (said_of_wrong o).ending ≡ 1 → ⊥
-wrong_not_one None h = absurd (omega (arith, h))
-wrong_not_one (Some f) h = absurd (omega (arith, h))
+wrong_no_verdict : (o : Option CertFault) (code : ℕ) → status_of (said_of_wrong o).ending ≡ code → 1 ≤ code → code ≤ 2 → ⊥
+wrong_no_verdict None code h low high = absurd (omega (arith, h, low))
+wrong_no_verdict (Some f) code h low high = absurd (omega (arith, h, high))
 
-under_not_one : (qs : List Questions) (h : Heading) (c : Certificate) → status_of (said_under qs h c).ending ≡ 1 → ⊥
-under_not_one qs Plain c h = wrong_not_one (first_wrong qs c) h
-under_not_one qs (Probe name tolerance) c h = absurd (omega (arith, h))
+-- a check gives no verdict
+under_no_verdict : (qs : List Questions) (h : Heading) (c : Certificate) (code : ℕ) → status_of (said_under qs h c).ending ≡ code → 1 ≤ code → code ≤ 2 → ⊥
+under_no_verdict qs Plain c code h low high = wrong_no_verdict (first_wrong qs c) code h low high
+under_no_verdict qs (Probe name tolerance) c code h low high = absurd (omega (arith, h, high))
 
 -- a valid certificate is read, and said to be valid
 valid_is_read : (q : Questions) (bytes : List ℕ) (v : IsValidFor q bytes) → certificate_file bytes ≡ Ok v.certificate
@@ -224,14 +225,15 @@ true_for rows tolerance some few bytes c read said =
 pub record Means (words : List (List ℕ)) (files : Files) (said : Said) : Type 0 where
   pub zero : status_of said.ending ≡ 0 → IsAccept words files said.text ⊎ IsValid words files said.text
   pub one : status_of said.ending ≡ 1 → IsReject words files said.text
+  pub two : status_of said.ending ≡ 2 → IsOpen words files said.text
   pub eight : status_of said.ending ≡ 8 → IsInvalid words files said.text
 
 -- an answer of another status says nothing here
-means_nothing : (words : List (List ℕ)) (files : Files) (said : Said) (code : ℕ) → status_of said.ending ≡ code → (code ≡ 0 → ⊥) → (code ≡ 1 → ⊥) → (code ≡ 8 → ⊥) → Means words files said
-means_nothing words files said code is a b c = record { zero = λ h. absurd (a (sym is ∙ h)); one = λ h. absurd (b (sym is ∙ h)); eight = λ h. absurd (c (sym is ∙ h)) }
+means_nothing : (words : List (List ℕ)) (files : Files) (said : Said) (code : ℕ) → status_of said.ending ≡ code → (code ≡ 0 → ⊥) → (code ≡ 1 → ⊥) → (code ≡ 2 → ⊥) → (code ≡ 8 → ⊥) → Means words files said
+means_nothing words files said code is a b c d = record { zero = λ h. absurd (a (sym is ∙ h)); one = λ h. absurd (b (sym is ∙ h)); two = λ h. absurd (c (sym is ∙ h)); eight = λ h. absurd (d (sym is ∙ h)) }
 
 refusal_means : (words : List (List ℕ)) (files : Files) (a : Answer) (word : List ℕ) (f : InputFault) → a ≡ only_said (refused word f) → Means words files a.said
-refusal_means words files a word f is = means_nothing words files a.said 3 (ap (λ (b : Answer). status_of b.said.ending) is) (λ h. omega (arith, h)) (λ h. omega (arith, h)) (λ h. omega (arith, h))
+refusal_means words files a word f is = means_nothing words files a.said 3 (ap (λ (b : Answer). status_of b.said.ending) is) (λ h. omega (arith, h)) (λ h. omega (arith, h)) (λ h. omega (arith, h)) (λ h. omega (arith, h))
 
 verdict_means : (words : List (List ℕ)) (files : Files) (flat : Flat) (input : HasTable files flat.points) → Asks words (ForFlat flat) → (e : End) → IsVerdict (questions_of input.table.rows flat.tolerance) flat.budget e → (said : Said) → said ≡ said_of_end e → Means words files said
 verdict_means words files flat input asks (Accepted w level) verdict said is =
@@ -239,6 +241,7 @@ verdict_means words files flat input asks (Accepted w level) verdict said is =
     record {
       zero = λ h. inl (record { flat = flat; asks = asks; input = input; level = level; axis = w.root; direction = direction_at w; conforms = accept_is_flat input.table.rows flat.tolerance (some_of input) (few_of input) flat.budget level w verdict; text = ap (λ (s : Said). s.text) is });
       one = λ h. absurd (omega (arith, h, status));
+      two = λ h. absurd (omega (arith, h, status));
       eight = λ h. absurd (omega (arith, h, status));
     }
 verdict_means words files flat input asks (Rejected leaves tree) verdict said is =
@@ -246,17 +249,24 @@ verdict_means words files flat input asks (Rejected leaves tree) verdict said is
     record {
       zero = λ h. absurd (omega (arith, h, status));
       one = λ h. record { flat = flat; asks = asks; input = input; leaves = leaves; none = reject_is_flat_nowhere input.table.rows flat.tolerance (some_of input) (few_of input) flat.budget leaves tree verdict; text = ap (λ (s : Said). s.text) is };
+      two = λ h. absurd (omega (arith, h, status));
       eight = λ h. absurd (omega (arith, h, status));
     }
 verdict_means words files flat input asks (Open tree counts) verdict said is =
-    means_nothing words files said 2 (ap (λ (s : Said). status_of s.ending) is) (λ h. omega (arith, h)) (λ h. omega (arith, h)) (λ h. omega (arith, h))
+    let status : status_of said.ending ≡ 2 = ap (λ (s : Said). status_of s.ending) is in
+    record {
+      zero = λ h. absurd (omega (arith, h, status));
+      one = λ h. absurd (omega (arith, h, status));
+      two = λ h. record { flat = flat; asks = asks; input = input; lines = tree; counts = counts; is = verdict; text = ap (λ (s : Said). s.text) is };
+      eight = λ h. absurd (omega (arith, h, status));
+    }
 
 flat_means : (words : List (List ℕ)) (files : Files) (flat : Flat) → Asks words (ForFlat flat) → (a : Answer) → FlatRead files flat a → Means words files a.said
 flat_means words files flat asks a (Judged input is) = verdict_means words files flat input asks is.0 is.1 a.said (ap (λ (b : Answer). b.said) is.2)
 flat_means words files flat asks a (Refused f is) = refusal_means words files a flat.points f is
 
-check_means : (words : List (List ℕ)) (files : Files) (check : Check) → Asks words (ForCheck check) → (a : Answer) → CheckRead files check a → Means words files a.said
-check_means words files check asks a (Decided input bytes held c read is) =
+check_flat_means : (words : List (List ℕ)) (files : Files) (check : CheckFlat) → Asks words (ForCheckFlat check) → (a : Answer) → CheckFlatRead files check a → Means words files a.said
+check_flat_means words files check asks a (Decided input bytes held c read is) =
     let rows : List Row = input.table.rows in
     let qs : List Questions = questions_of rows check.tolerance ∷ [] in
     let some = some_of input in
@@ -267,7 +277,8 @@ check_means words files check asks a (Decided input bytes held c read is) =
       zero = λ h.
           let said : IsSaidValid qs c = said_valid qs c c.heading refl (sym status ∙ h) in
           inr (record { check = check; asks = asks; input = input; bytes = bytes; held = held; true = true_for rows check.tolerance some few bytes c (certificate_read bytes c read) said; text = printed ∙ said.text });
-      one = λ h. absurd (under_not_one qs c.heading c (sym status ∙ h));
+      one = λ h. absurd (under_no_verdict qs c.heading c 1 (sym status ∙ h) (omega arith) (omega arith));
+      two = λ h. absurd (under_no_verdict qs c.heading c 2 (sym status ∙ h) (omega arith) (omega arith));
       eight = λ h.
           let t : StatesLine (said_of_certificate qs c) = under_states qs c.heading c (sym status ∙ h) in
           record {
@@ -285,16 +296,17 @@ check_means words files check asks a (Decided input bytes held c read is) =
             text = printed ∙ t.text;
           };
     }
-check_means words files check asks a (Unreadable input bytes held f read is) =
+check_flat_means words files check asks a (Unreadable input bytes held f read is) =
     let status : status_of a.said.ending ≡ 8 = ap (λ (b : Answer). status_of b.said.ending) is in
     record {
       zero = λ h. absurd (omega (arith, h, status));
       one = λ h. absurd (omega (arith, h, status));
+      two = λ h. absurd (omega (arith, h, status));
       eight = λ h. record { check = check; asks = asks; input = input; bytes = bytes; held = held; wrong = λ v. let ok = valid_is_read (questions_of input.table.rows check.tolerance) bytes v in cc; line = f.line; code = f.code; text = ap (λ (b : Answer). b.said.text) is };
     }
-check_means words files check asks a (Unread f is) = refusal_means words files a check.points f is
+check_flat_means words files check asks a (Unread f is) = refusal_means words files a check.points f is
 
 pub means : (words : List (List ℕ)) (files : Files) (a : Answer) → IsAnswer words files a → Means words files a.said
-means words files a (inl wrong) = means_nothing words files a.said 4 (ap (λ (b : Answer). status_of b.said.ending) wrong.1) (λ h. omega (arith, h)) (λ h. omega (arith, h)) (λ h. omega (arith, h))
+means words files a (inl wrong) = means_nothing words files a.said 4 (ap (λ (b : Answer). status_of b.said.ending) wrong.1) (λ h. omega (arith, h)) (λ h. omega (arith, h)) (λ h. omega (arith, h)) (λ h. omega (arith, h))
 means words files a (inr (ForFlat flat, asks, is)) = flat_means words files flat asks a (flat_read files flat a is)
-means words files a (inr (ForCheck check, asks, is)) = check_means words files check asks a (check_read files check a is)
+means words files a (inr (ForCheckFlat check, asks, is)) = check_flat_means words files check asks a (check_flat_read files check a is)

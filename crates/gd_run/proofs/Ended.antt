@@ -1,5 +1,5 @@
 -- How a run ends, from its report and from how that was stored and put.
-use Rattle.std.proofs.Common.{arith, ◌≡◌, ◌≢◌, ◌∙◌, ap, sym, refl, subst, ℕ, ◌≤◌, ◌+◌, ◌⊎◌, inl, inr, Bool, true, false, List, [], ◌∷◌, ◌++◌, Option, Some, None, Result, Ok, Err, take, min}
+use Rattle.std.proofs.Common.{arith, ◌≡◌, ◌≢◌, ◌∙◌, ap, sym, refl, subst, ℕ, ◌≤◌, ◌+◌, ◌⊎◌, inl, inr, true, false, List, [], ◌∷◌, ◌++◌, Option, Some, None, Result, Ok, Err, take}
 use Rattle.std.proofs.lemmas.List.{append-nil}
 use Rattle.std.proofs.lemmas.List.Elements.{All-head}
 use Rattle.std.specs.List.{All}
@@ -13,7 +13,7 @@ use Rattle.gd_report.specs.declared.ending.Ending.TheVariants as ending
 use Rattle.gd_run.proofs.Asked.{same_ask}
 use Rattle.gd_run.specs.Answers.{Answer, Store, only_said}
 use Rattle.gd_run.specs.Asks.{Ask, store_of}
-use Rattle.gd_run.specs.Endings.{CallsFew, Course, Ends, EndsInPut, EndsInStore, EndsInWant, EndsUnread, EndsWithAnswer, HasAnswer, IsToPut, IsUnread, ReadsFew, StoredSome, StoresDone}
+use Rattle.gd_run.specs.Endings.{CallsFew, Course, Ends, EndsInPut, EndsInStore, EndsInWant, EndsWithAnswer, HasAnswer, IsUnread, ReadsFew, StoredSome, StoresDone}
 use Rattle.gd_run.specs.Reports.{HasReport, IsUnreadAnd, OnReport, PutFails, StoreFails, stores_wanted}
 use Rattle.gd_run.specs.Runs.{IsAnswer, IsNext, IsPossible, IsToRead}
 use Rattle.gd_run.specs.Views.{answer_in, stores_in}
@@ -21,7 +21,7 @@ use Rattle.gd_run.specs.declared.report.NamedFile.{NamedFile}
 use Rattle.gd_run.specs.declared.report.Report.{Report}
 use Rattle.gd_run.specs.declared.report.Stop.{Stop}
 use Rattle.gd_run.specs.declared.report.Stop.TheVariants as stop
-use Rattle.gd_world.specs.Shelf.{Files, IsWord, Puts, PutsPrefix, SameFiles, Word}
+use Rattle.gd_world.specs.Shelf.{Files, IsWord, PutsPrefix, SameFiles, Word}
 
 -- ---- files that loads have left as they were
 pub stores_moved : (ss : List Store) (old mid new : Files) → SameFiles old mid → StoresDone ss mid new → StoresDone ss old new

@@ -1,5 +1,6 @@
 pub mod Reported
 pub mod Asked
+pub mod Taken
 pub mod Ended
 pub mod Laws
 pub mod Certified

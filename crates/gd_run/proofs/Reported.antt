@@ -1,5 +1,5 @@
 -- Reports: what is so of the store and of the put of one.
-use Rattle.std.proofs.Common.{◌≡◌, ◌≤◌, refl, true, Bool, ℕ, List, Option, Some, None}
+use Rattle.std.proofs.Common.{◌≡◌, refl, true, Bool, ℕ, List, Option, Some, None}
 use Rattle.std.specs.Prelude.{IsSomeAnd}
 use Rattle.gd_base.specs.Causes.{Rose}
 use Rattle.gd_run.specs.Reports.{StoreFails}

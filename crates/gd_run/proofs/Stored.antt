@@ -1,5 +1,5 @@
 -- What a run leaves under the word of the certificate of `flat`.
-use Rattle.std.proofs.Common.{arith, ◌≡◌, ◌∙◌, ap, sym, refl, subst, ℕ, ◌≤◌, ◌⊎◌, inl, inr, true, List, [], ◌∷◌, ◌++◌, Option, Some, None, take}
+use Rattle.std.proofs.Common.{arith, ◌≡◌, ◌∙◌, ap, sym, refl, subst, ℕ, ◌≤◌, ◌⊎◌, inl, inr, true, List, [], ◌∷◌, ◌++◌, Some}
 use Rattle.gd_cert.specs.Text.{text}
 use Rattle.gd_flat.specs.FlatTask.{questions_of}
 use Rattle.gd_points.proofs.Tables.{table_has_few, table_has_row}
@@ -8,9 +8,9 @@ use Rattle.gd_run.proofs.Asked.{same_ask}
 use Rattle.gd_run.proofs.Claimed.{FlatRead, Judged, Refused, end_is_valid, flat_read, table_read}
 use Rattle.gd_run.proofs.Laws.{each_end}
 use Rattle.gd_run.specs.Answers.{Answer, Store, certificate_of_end, stores_to}
-use Rattle.gd_run.specs.Asks.{Ask, Asks, ForFlat}
+use Rattle.gd_run.specs.Asks.{Asks, ForFlat}
 use Rattle.gd_run.specs.Claims.{HasTable, HoldsFront, HoldsValid, IsValidFor, LeavesValid, StoresValid}
-use Rattle.gd_run.specs.Endings.{Course, Ends, EndsInPut, EndsInStore, EndsInWant, EndsWithAnswer, StoredSome, StoresDone}
+use Rattle.gd_run.specs.Endings.{Course, Ends, EndsWithAnswer, StoresDone}
 use Rattle.gd_run.specs.FlatCommand.{Flat}
 use Rattle.gd_run.specs.Runs.{IsAnswer, IsAnswerTo}
 use Rattle.gd_world.specs.Shelf.{Files, IsWord, PutsPrefix, SameFiles, Word}

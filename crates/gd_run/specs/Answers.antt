@@ -1,5 +1,5 @@
 -- The answer of a run: the stores to be done in order, one text, and how the run ends.
-use Rattle.std.specs.Prelude.{ℕ, ◌≡◌, List, [], ◌∷◌, Option, Some, None}
+use Rattle.std.specs.Prelude.{ℕ, List, [], ◌∷◌, Option, Some, None}
 use Rattle.gd_cells.specs.Meaning.{Questions}
 use Rattle.gd_cert.specs.Certificates.{Certificate, Heading, Plain, Probe}
 use Rattle.gd_cert.specs.declared.fault.CertFault.{CertFault}

@@ -1,38 +1,38 @@
 -- What the words of a run ask for. A command is a line in each of these definitions.
-use Rattle.std.specs.Prelude.{ℕ, ◌≡◌, List, [], ◌∷◌, Option, Some, None}
+use Rattle.std.specs.Prelude.{ℕ, ◌≡◌, List, Option, Some, None}
 use Rattle.gd_run.specs.Answers.{Answer}
-use Rattle.gd_run.specs.CheckCommand.{Check, IsCheckJob, IsCheckRange, check_inputs, check_words}
+use Rattle.gd_run.specs.CheckFlatCommand.{CheckFlat, IsCheckFlatJob, IsCheckFlatRange, check_flat_inputs, check_flat_words}
 use Rattle.gd_run.specs.FlatCommand.{Flat, IsFlatJob, IsFlatRange, flat_inputs, flat_words}
 use Rattle.gd_run.specs.Inputs.{Given, Input}
 
 pub data Ask : Type 0 where
   ForFlat : Flat → Ask
-  ForCheck : Check → Ask
+  ForCheckFlat : CheckFlat → Ask
 
 -- the words of an ask: each number has one spelling
 abbrev pub words_of : Ask → List (List ℕ)
 words_of (ForFlat flat) = flat_words flat
-words_of (ForCheck check) = check_words check
+words_of (ForCheckFlat check) = check_flat_words check
 
 -- its numbers are in their ranges
 abbrev pub IsInRange : Ask → Type 0
 IsInRange (ForFlat flat) = IsFlatRange flat
-IsInRange (ForCheck check) = IsCheckRange check
+IsInRange (ForCheckFlat check) = IsCheckFlatRange check
 
 -- the files that it reads, in order
 abbrev pub inputs_of : Ask → List Input
 inputs_of (ForFlat flat) = flat_inputs flat
-inputs_of (ForCheck check) = check_inputs check
+inputs_of (ForCheckFlat check) = check_flat_inputs check
 
 -- the word under which it stores, where it stores
 abbrev pub store_of : Ask → Option (List ℕ)
 store_of (ForFlat flat) = flat.certificate
-store_of (ForCheck check) = None
+store_of (ForCheckFlat check) = None
 
 -- its answer from what was read
 abbrev pub IsJob : Ask → Given → Answer → Type 0
 IsJob (ForFlat flat) given a = IsFlatJob flat given a
-IsJob (ForCheck check) given a = IsCheckJob check given a
+IsJob (ForCheckFlat check) given a = IsCheckFlatJob check given a
 
 -- the words ask for this
 pub record Asks (words : List (List ℕ)) (ask : Ask) : Type 0 where

@@ -1,7 +1,9 @@
 -- What a run's text says of the points of a file.
-use Rattle.std.specs.Prelude.{ℕ, ◌≡◌, ◌≤◌, ◌⊎◌, true, List, [], ◌∷◌, Option, Some, Ok, length, take}
+use Rattle.std.specs.Prelude.{ℕ, ◌≡◌, ◌≤◌, ◌⊎◌, true, List, [], ◌∷◌, Some, Ok, length, take}
 use Rattle.gd_base.specs.Limits.{FILE_BYTES}
+use Rattle.gd_base.specs.declared.verdict.Counts.{Counts}
 use Rattle.gd_cells.specs.Meaning.{Questions}
+use Rattle.gd_cells.specs.declared.node.Node.{Node}
 use Rattle.gd_cert.specs.Bounds.{IsInBounds}
 use Rattle.gd_cert.specs.Certificates.{Body, Accept, Reject, Open, Certificate, Plain}
 use Rattle.gd_cert.specs.Text.{text}
@@ -11,9 +13,9 @@ use Rattle.gd_flat.specs.FlatTask.{direction_at, questions_of}
 use Rattle.gd_flat.specs.Flatness.{IsFlat, IsFlatAlong}
 use Rattle.gd_points.specs.Table.{Table}
 use Rattle.gd_points.specs.declared.table.Row.{Row}
-use Rattle.gd_report.specs.Texts.{accept_text, invalid_text, reject_text, valid_text}
-use Rattle.gd_run.specs.Asks.{Asks, ForCheck, ForFlat}
-use Rattle.gd_run.specs.CheckCommand.{Check}
+use Rattle.gd_report.specs.Texts.{accept_text, invalid_text, open_text, reject_text, valid_text}
+use Rattle.gd_run.specs.Asks.{Asks, ForCheckFlat, ForFlat}
+use Rattle.gd_run.specs.CheckFlatCommand.{CheckFlat}
 use Rattle.gd_run.specs.FlatCommand.{Flat}
 use Rattle.gd_run.specs.Inputs.{points_file}
 use Rattle.gd_verdict.specs.Trees.{tree}
@@ -54,6 +56,16 @@ pub record IsReject (words : List (List ℕ)) (files : Files) (printed : List �
   pub none : IsFlatNowhere input.table.rows flat.tolerance
   pub text : printed ≡ reject_text leaves
 
+-- an open verdict that the run printed: it is the verdict for the budget, and has these counts
+pub record IsOpen (words : List (List ℕ)) (files : Files) (printed : List ℕ) : Type 0 where
+  pub flat : Flat
+  pub asks : Asks words (ForFlat flat)
+  pub input : HasTable files flat.points
+  pub lines : List Node
+  pub counts : Counts
+  pub is : IsVerdict (questions_of input.table.rows flat.tolerance) flat.budget (verdict.Open lines counts)
+  pub text : printed ≡ open_text counts
+
 -- ---- certificates
 -- what a group of a certificate says of the points: they are flat along the direction of its witness, or along none, or
 -- the verdict for the budget is open
@@ -84,8 +96,8 @@ pub record IsTrueFor (rows : List Row) (tolerance : ℕ) (bytes : List ℕ) : Ty
 -- the run printed `valid`: the certificate is right for the points of the file and the tolerance, and what it says of
 -- them is so
 pub record IsValid (words : List (List ℕ)) (files : Files) (printed : List ℕ) : Type 0 where
-  pub check : Check
-  pub asks : Asks words (ForCheck check)
+  pub check : CheckFlat
+  pub asks : Asks words (ForCheckFlat check)
   pub input : HasTable files check.points
   pub bytes : List ℕ
   pub held : files check.certificate ≡ Some bytes
@@ -94,8 +106,8 @@ pub record IsValid (words : List (List ℕ)) (files : Files) (printed : List ℕ
 
 -- the run printed that the certificate is invalid: its bytes are of no right certificate
 pub record IsInvalid (words : List (List ℕ)) (files : Files) (printed : List ℕ) : Type 0 where
-  pub check : Check
-  pub asks : Asks words (ForCheck check)
+  pub check : CheckFlat
+  pub asks : Asks words (ForCheckFlat check)
   pub input : HasTable files check.points
   pub bytes : List ℕ
   pub held : files check.certificate ≡ Some bytes

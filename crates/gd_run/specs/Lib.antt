@@ -1,7 +1,7 @@
 pub mod Inputs
 pub mod Answers
 pub mod FlatCommand
-pub mod CheckCommand
+pub mod CheckFlatCommand
 pub mod Asks
 pub mod Runs
 pub mod Claims

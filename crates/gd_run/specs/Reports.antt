@@ -1,5 +1,5 @@
 -- A report, or why there is none.
-use Rattle.std.specs.Prelude.{ℕ, ◌≡◌, ◌≤◌, ◌<◌, ◌++◌, ◌⊎◌, Bool, true, List, Some, Result, Ok, Err, IfSome, length}
+use Rattle.std.specs.Prelude.{ℕ, ◌≡◌, ◌≤◌, ◌<◌, ◌++◌, ◌⊎◌, Bool, true, List, Option, Some, None, Result, Ok, Err, IfSome, IsSomeAnd, length}
 use Rattle.std.specs.Prelude.{take}
 use Rattle.std.specs.Option.{option_len}
 use Rattle.std.specs.String.{string_bytes}
@@ -8,6 +8,8 @@ use Rattle.gd_base.specs.Limits.{FILE_BYTES}
 use Rattle.gd_cert.specs.Bounds.{IsInBounds}
 use Rattle.gd_cert.specs.Certificates.{certificate_of}
 use Rattle.gd_cert.specs.Text.{KeepsLines, text}
+use Rattle.gd_frames.specs.Facts.{IsFile}
+use Rattle.gd_points.specs.Table.{Table}
 use Rattle.gd_report.specs.Said.{Said, said_in, status_of}
 use Rattle.gd_report.specs.declared.ending.Ending.{Ending}
 use Rattle.gd_run.specs.Endings.{StoresDone}
@@ -19,6 +21,8 @@ use Rattle.gd_run.specs.declared.report.Refusal.TheVariants as refusal
 use Rattle.gd_run.specs.declared.report.Report.{Report}
 use Rattle.gd_run.specs.declared.report.Stop.{Stop}
 use Rattle.gd_run.specs.declared.report.Stop.TheVariants as stop
+use Rattle.gd_tables.specs.Kinds.{file_of}
+use Rattle.gd_tables.specs.declared.file.FrameFile.{FrameFile}
 use Rattle.gd_world.specs.Shelf.{Files, IsWord, PutsPrefix, Word}
 
 -- what is so of a report, and of the word of a file that could not be read. Of want of memory nothing is said
@@ -39,9 +43,16 @@ IsUnreadAnd Q (Ok report) = ⊥
 IsUnreadAnd Q (Err (stop.Unread word)) = Q word.now
 IsUnreadAnd Q (Err stop.Memory) = ⊥
 
--- what the readers say of what was read: a table has a point, and a certificate can be checked
+-- frames were read beside the table, and keep the rules of a frame file
+abbrev pub AreOfTable : Option Table → Option FrameFile → Type 0
+AreOfTable table None = Unit {0}
+AreOfTable table (Some file) = IsSomeAnd table (λ t. IsFile t (file_of file))
+
+-- what the readers say of what was read: a table has a point, frames are those of the table, and a certificate can be
+-- checked
 pub record IsSound (i : Inputs) : Type 0 where
   pub some_points : IfSome i.table (λ t. 0 < length t.rows)
+  pub of_table : AreOfTable i.table i.frames
   pub certified : IfSome i.certificate (λ c. IsInBounds (certificate_of c) × KeepsLines c
       × (length (text (certificate_of c)) ≤ FILE_BYTES))
 

@@ -1,5 +1,5 @@
 -- The answer to the words of a run over the files that they name.
-use Rattle.std.specs.Prelude.{ℕ, ◌≡◌, ◌≤◌, ◌⊎◌, List, [], Option, Some, Result, Ok, Err, IsSomeAnd}
+use Rattle.std.specs.Prelude.{ℕ, ◌≡◌, ◌≤◌, ◌⊎◌, List, [], Some, Result, Ok, Err, IsSomeAnd}
 use Rattle.std.specs.List.{All}
 use Rattle.gd_report.specs.Said.{Said, status_of, wrong_words}
 use Rattle.gd_run.specs.Answers.{Answer, Store, only_said}

@@ -1,42 +1,19 @@
 // The certificate of a verdict, for any task.
-ghost use Rattle.std.specs.Prelude.{◌≡◌, IfOk, take};
-ghost use Rattle.gd_cert.specs.Certificates.{body_of, certificate_of};
+ghost use Rattle.std.specs.Prelude.{◌≡◌, IfOk};
+ghost use Rattle.gd_cert.specs.Certificates.{certificate_of};
 ghost use Rattle.gd_cert.specs.Text.{text};
-ghost use Rattle.gd_check.specs.Written.{body_of_end};
 ghost use Rattle.gd_run.specs.Answers.{certificate_of_end};
 ghost use Rattle.gd_search.specs.Outcomes.{end_of};
 
 use gd_base::Memory;
-use gd_cells::{Task, Witness, show_laws};
-use gd_cert::{Cert, CertBody, CertGroup, Head, write_cert};
+use gd_cells::Task;
+use gd_cert::{Cert, CertGroup, Head, write_cert};
+use gd_judge::body_of_outcome;
 use gd_search::Outcome;
 use std::alloc::Global;
 
 /// The line on which the first group of a certificate begins.
 const FIRST_GROUP: u32 = 5;
-
-// The numbers of a witness that the task has.
-fn numbers_of<T: Task>(alloc: Global, task: &T, witness: &Witness) -> Result<Vec<i64>, Memory>
-    ensures { IfOk result (λ v. v.items ≡ take (T.questions task.now).grid.numbers witness.now.at) }
-{
-    show_laws::<T>();
-    let numbers = task.numbers() as usize;
-    Ok(Vec::from_slice(alloc, &witness.at[..numbers])?)
-}
-
-// The body of a certificate for how the search of a task ended.
-fn body_of_outcome<T: Task>(alloc: Global, task: &T, outcome: Outcome) -> Result<CertBody, Memory>
-    ensures { IfOk result (λ body. body_of body ≡ body_of_end (T.questions task.now) (end_of outcome)) }
-{
-    match outcome {
-        Outcome::Accept { witness, .. } => Ok(CertBody::Accept {
-            root: witness.root,
-            at: numbers_of(alloc, task, &witness)?,
-        }),
-        Outcome::Reject { tree } => Ok(CertBody::Reject { tree }),
-        Outcome::StillOpen { tree, counts } => Ok(CertBody::StillOpen { counts, tree }),
-    }
-}
 
 // The certificate for how the search of a task ended that had this budget.
 fn cert_of_outcome<T: Task>(

@@ -5,7 +5,7 @@ ghost use Rattle.gd_cert.specs.Bounds.{IsInBounds};
 ghost use Rattle.gd_cert.specs.Certificates.{certificate_of};
 ghost use Rattle.gd_cert.specs.Text.{KeepsLines, text};
 ghost use Rattle.gd_run.specs.Asks.{IsSpelled};
-ghost use Rattle.gd_run.specs.CheckCommand.{IsCheckAnswer, IsCheckRange, check_inputs, check_words};
+ghost use Rattle.gd_run.specs.CheckFlatCommand.{IsCheckFlatAnswer, IsCheckFlatRange, check_flat_inputs, check_flat_words};
 
 use crate::decision::decide;
 use crate::inputs::{Input, InputKind};
@@ -19,7 +19,7 @@ use std::alloc::Global;
 
 /// `checkflat POINTS T CERT`: decide a certificate of flatness from the points of a file.
 #[derive(Clone, Copy)]
-pub struct CheckCommand<'a> {
+pub struct CheckFlatCommand<'a> {
     /// The word of the points file.
     pub points: &'a str,
     /// The tolerance, in units of 0.1 micrometre.
@@ -29,15 +29,19 @@ pub struct CheckCommand<'a> {
     ghost tolerance_range: { tolerance ≤ TOLERANCE },
 }
 
-impl<'a> CheckCommand<'a> {
-    ghost use Rattle.gd_run.specs.Views.{answer_in, check_of, input_of};
+impl<'a> CheckFlatCommand<'a> {
+    ghost use Rattle.gd_run.specs.Views.{answer_in, check_flat_of, input_of};
 
     /// The command of these words after `checkflat`, or none where the number is spelled otherwise or out of its range.
-    pub fn of(points: &'a str, tolerance: &str, certificate: &'a str) -> Option<CheckCommand<'a>>
-        ensures { IsSpelled check_words IsCheckRange (codes "checkflat" ∷ points.now ∷ tolerance.now ∷ certificate.now ∷ []) (option_map check_of result) }
+    pub fn of(
+        points: &'a str,
+        tolerance: &str,
+        certificate: &'a str,
+    ) -> Option<CheckFlatCommand<'a>>
+        ensures { IsSpelled check_flat_words IsCheckFlatRange (codes "checkflat" ∷ points.now ∷ tolerance.now ∷ certificate.now ∷ []) (option_map check_flat_of result) }
     {
         let tolerance = plain_number(tolerance.as_bytes(), u64::from(TOLERANCE))?;
-        Some(CheckCommand {
+        Some(CheckFlatCommand {
             points,
             tolerance: tolerance as u32,
             certificate,
@@ -46,7 +50,7 @@ impl<'a> CheckCommand<'a> {
 
     /// The files that it reads, in order.
     pub fn inputs(&self, alloc: Global) -> Result<Vec<Input<'a>>, Memory>
-        ensures { IfOk result (λ v. map input_of v.items ≡ check_inputs (check_of self.now)) }
+        ensures { IfOk result (λ v. map input_of v.items ≡ check_flat_inputs (check_flat_of self.now)) }
     {
         let mut inputs = Vec::with_capacity(alloc, 2)?;
         inputs.push(Input {
@@ -71,7 +75,7 @@ impl<'a> CheckCommand<'a> {
         requires bounds { IsInBounds (certificate_of cert.now) }
         requires lines { KeepsLines cert.now }
         requires short { length (text (certificate_of cert.now)) ≤ FILE_BYTES }
-        ensures { IfOk result (λ r. IsCheckAnswer (check_of self.now) table.now (certificate_of cert.now) (answer_in r)) }
+        ensures { IfOk result (λ r. IsCheckFlatAnswer (check_flat_of self.now) table.now (certificate_of cert.now) (answer_in r)) }
     {
         let task = flat_task(table, self.tolerance);
         let line = decide(alloc, &[task], cert)?;

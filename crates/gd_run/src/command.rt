@@ -1,12 +1,12 @@
 // The commands of the program. A command is a case in each of these functions.
 ghost use Rattle.std.specs.Prelude.{◌≡◌, IfOk, map, option_map};
 ghost use Rattle.std.specs.String.{string_bytes};
-ghost use Rattle.gd_run.specs.Asks.{ForCheck, ForFlat, IsAskOf, IsJob, inputs_of};
+ghost use Rattle.gd_run.specs.Asks.{ForCheckFlat, ForFlat, IsAskOf, IsJob, inputs_of};
 ghost use Rattle.gd_run.specs.Inputs.{kinds_after, kinds_of, nothing_given};
 ghost use Rattle.gd_run.specs.Reports.{IsSound};
-ghost use Rattle.gd_run.specs.Views.{answer_in, ask_of, check_of, flat_of, given_of, input_of};
+ghost use Rattle.gd_run.specs.Views.{answer_in, ask_of, check_flat_of, flat_of, given_of, input_of};
 
-use crate::checkflat::CheckCommand;
+use crate::checkflat::CheckFlatCommand;
 use crate::flat::FlatCommand;
 use crate::inputs::{Input, Inputs};
 use crate::report::Report;
@@ -18,7 +18,7 @@ use std::thread::Threads;
 #[derive(Clone, Copy)]
 pub enum Command<'a> {
     Flat(FlatCommand<'a>),
-    Check(CheckCommand<'a>),
+    CheckFlat(CheckFlatCommand<'a>),
 }
 
 // The command of the words that follow `flat`.
@@ -32,11 +32,11 @@ fn as_flat<'a>(flat: Option<FlatCommand<'a>>) -> Option<Command<'a>>
 }
 
 // The command of the words that follow `checkflat`.
-fn as_check<'a>(check: Option<CheckCommand<'a>>) -> Option<Command<'a>>
-    ensures { option_map ask_of result ≡ option_map (λ c. ForCheck (check_of c)) check.entry }
+fn as_check_flat<'a>(check: Option<CheckFlatCommand<'a>>) -> Option<Command<'a>>
+    ensures { option_map ask_of result ≡ option_map (λ c. ForCheckFlat (check_flat_of c)) check.entry }
 {
     match check {
-        Some(check) => Some(Command::Check(check)),
+        Some(check) => Some(Command::CheckFlat(check)),
         None => None,
     }
 }
@@ -54,7 +54,7 @@ impl<'a> Command<'a> {
                     last.as_str(),
                     None,
                 )),
-                "checkflat" => as_check(CheckCommand::of(
+                "checkflat" => as_check_flat(CheckFlatCommand::of(
                     points.as_str(),
                     tolerance.as_str(),
                     last.as_str(),
@@ -80,7 +80,7 @@ impl<'a> Command<'a> {
     {
         match self {
             Command::Flat(flat) => flat.inputs(alloc),
-            Command::Check(check) => check.inputs(alloc),
+            Command::CheckFlat(check) => check.inputs(alloc),
         }
     }
 
@@ -97,7 +97,7 @@ impl<'a> Command<'a> {
     {
         match self {
             Command::Flat(flat) => flat.answer(rt, alloc, inputs.table()),
-            Command::Check(check) => check.answer(alloc, inputs.table(), inputs.certificate()),
+            Command::CheckFlat(check) => check.answer(alloc, inputs.table(), inputs.certificate()),
         }
     }
 }

@@ -2,6 +2,7 @@
 ghost use Rattle.std.specs.Prelude.{◌≡◌, true, Some, is_some};
 
 use gd_cert::Cert;
+use gd_frames::FrameFile;
 use gd_points::PointTable;
 
 /// What a file is read as.
@@ -9,6 +10,8 @@ use gd_points::PointTable;
 pub enum InputKind {
     /// A points file.
     Points,
+    /// A frame file, beside the points that were read before it.
+    Frames,
     /// A certificate.
     Certificate,
 }
@@ -24,6 +27,7 @@ pub struct Input<'a> {
 #[derive(Drop)]
 pub struct Inputs {
     pub table: Option<PointTable>,
+    pub frames: Option<FrameFile>,
     pub certificate: Option<Cert>,
 }
 
@@ -34,6 +38,14 @@ impl Inputs {
         ensures { self.now.table ≡ Some result.now }
     {
         self.table.as_ref().unwrap()
+    }
+
+    /// The frame file.
+    pub fn frames(&self) -> &FrameFile
+        requires { is_some self.now.frames ≡ true }
+        ensures { self.now.frames ≡ Some result.now }
+    {
+        self.frames.as_ref().unwrap()
     }
 
     /// The certificate.

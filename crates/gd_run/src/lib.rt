@@ -10,7 +10,5 @@ mod inputs;
 mod program;
 mod reading;
 mod report;
-#[cfg(test)]
-mod tests;
 
 pub use program::run;

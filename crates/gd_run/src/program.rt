@@ -8,7 +8,7 @@ ghost use Rattle.gd_report.specs.Said.{status_of};
 ghost use Rattle.gd_report.specs.Texts.{cannot_read_text, wrong_words_text};
 ghost use Rattle.gd_report.specs.declared.ending.Ending.TheVariants as ending;
 ghost use Rattle.gd_run.specs.Asks.{IsNoCommand, inputs_of};
-ghost use Rattle.gd_run.specs.Claims.{IsInvalid, IsReject, LeavesValid, StoresValid};
+ghost use Rattle.gd_run.specs.Claims.{IsInvalid, IsOpen, IsReject, LeavesValid, StoresValid};
 ghost use Rattle.gd_run.specs.Endings.{Answers, CallsFew, Ends, EndsInZero, FailedToRead, Prints, ReadsFew, StoresDone};
 ghost use Rattle.gd_run.specs.Inputs.{IsTurn, IsWordOf, nothing_given};
 ghost use Rattle.gd_run.specs.Reports.{HasReport, IsPlain, IsUnreadAnd, OnReport, PutFails, StoreFails, stores_wanted};
@@ -265,6 +265,11 @@ pub fn run<R: Threads + Sync, S: Shelf, O: Sink>(
     // With 1 it printed a reject: along no direction are all points within the tolerance.
     ensures reject { S.tells ≡ true → O.tells ≡ true → result.0 ≡ 1
         → Prints (IsReject (map string_bytes words.now.items) (S.holds shelf.old)) (O.written out.old)
+        (O.written out.new) }
+
+    // With 2 it printed an open verdict, which is the verdict for the budget.
+    ensures open { S.tells ≡ true → O.tells ≡ true → result.0 ≡ 2
+        → Prints (IsOpen (map string_bytes words.now.items) (S.holds shelf.old)) (O.written out.old)
         (O.written out.new) }
 
     // With 8 it printed the first wrong line of a certificate, which isn't right.

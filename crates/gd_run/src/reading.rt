@@ -1,9 +1,9 @@
 // The one place where a run loads files and reads them.
-ghost use Rattle.std.specs.Prelude.{◌≡◌, ◌≤◌, ◌<◌, ◌+◌, true, false, Ok, Err, Some, IfOk, IsOkAnd, length, map};
+ghost use Rattle.std.specs.Prelude.{◌≡◌, ◌≤◌, ◌<◌, ◌+◌, true, false, Ok, Err, Some, IfOk, IsOkAnd, is_some, length, map};
 ghost use Rattle.gd_base.specs.Causes.{Rose};
 ghost use Rattle.gd_base.specs.Limits.{FILE_BYTES};
 ghost use Rattle.gd_report.specs.Said.{invalid, said_in};
-ghost use Rattle.gd_run.specs.Inputs.{IsRefusal, IsTurn, IsWordOf, Reads, certificate_file, kinds_after, kinds_of, nothing_given, points_file, reads, said_of_long, with_bytes, with_certificate, with_kind, with_points};
+ghost use Rattle.gd_run.specs.Inputs.{AreInOrder, IsPlaced, IsRefusal, IsTurn, IsWordOf, Reads, certificate_file, frames_beside, kinds_after, kinds_of, nothing_given, points_file, reads, said_of_long, with_bytes, with_certificate, with_kind, with_points};
 ghost use Rattle.gd_run.specs.Reports.{IsSound, OnInputs};
 ghost use Rattle.gd_run.specs.Views.{given_of, input_of};
 ghost use Rattle.gd_world.specs.Shelf.{IsWord, SameFiles};
@@ -12,6 +12,7 @@ use crate::inputs::{Input, InputKind, Inputs};
 use crate::report::Refusal;
 use gd_base::ReadFault;
 use gd_cert::{CertFault, CertReadFault, read_cert};
+use gd_frames::read_frames;
 use gd_points::{Rule as PointsRule, read_points};
 use gd_report::{Line, input_line, invalid_line};
 use gd_world::{LoadFault, Shelf};
@@ -50,6 +51,32 @@ fn read_table<'a>(
     match read_points(alloc, bytes) {
         Ok(table) => Ok(Inputs {
             table: Some(table),
+            frames: None,
+            certificate: inputs.certificate,
+        }),
+        Err(ReadFault::Input(fault)) => refused(input_line(alloc, word, fault)),
+        Err(ReadFault::Memory) => Err(Refusal::Memory),
+    }
+}
+
+// Reads the bytes of a frame file, beside the table of the points.
+fn read_frame_file<'a>(
+    alloc: Global,
+    word: &'a str,
+    bytes: &[u8],
+    inputs: Inputs,
+) -> Result<Inputs, Refusal<'a>>
+    requires short { length bytes.now ≤ FILE_BYTES }
+    requires sound { IsSound inputs }
+    requires points { is_some inputs.table ≡ true }
+    ensures read { OnInputs (λ i. frames_beside (given_of inputs) word.now bytes.now inputs.table ≡ Ok (given_of i))
+        (λ said. frames_beside (given_of inputs) word.now bytes.now inputs.table ≡ Err said) (λ w. ⊥) result }
+    ensures sound { OnInputs IsSound (λ said. Unit {0}) (λ w. Unit {0}) result }
+{
+    match read_frames(alloc, bytes, inputs.table()) {
+        Ok(file) => Ok(Inputs {
+            table: inputs.table,
+            frames: Some(file),
             certificate: inputs.certificate,
         }),
         Err(ReadFault::Input(fault)) => refused(input_line(alloc, word, fault)),
@@ -68,6 +95,7 @@ fn read_certificate<'a>(alloc: Global, bytes: &[u8], inputs: Inputs) -> Result<I
     match read_cert(alloc, bytes) {
         Ok(certificate) => Ok(Inputs {
             table: inputs.table,
+            frames: inputs.frames,
             certificate: Some(certificate),
         }),
         Err(CertReadFault::Cert(fault)) => refused(fault_line(alloc, fault)),
@@ -84,12 +112,14 @@ fn read_bytes<'a>(
 ) -> Result<Inputs, Refusal<'a>>
     requires short { length bytes.now ≤ FILE_BYTES }
     requires sound { IsSound inputs }
+    requires placed { IsPlaced input.now.kind (kinds_of (given_of inputs)) }
     ensures read { OnInputs (λ i. with_bytes input.now.kind (given_of inputs) input.now.word.now bytes.now ≡ Ok (given_of i))
         (λ said. with_bytes input.now.kind (given_of inputs) input.now.word.now bytes.now ≡ Err said) (λ w. ⊥) result }
     ensures sound { OnInputs IsSound (λ said. Unit {0}) (λ w. Unit {0}) result }
 {
     match input.kind {
         InputKind::Points => read_table(alloc, input.word, bytes, inputs),
+        InputKind::Frames => read_frame_file(alloc, input.word, bytes, inputs),
         InputKind::Certificate => read_certificate(alloc, bytes, inputs),
     }
 }
@@ -99,7 +129,9 @@ fn too_long<'a>(alloc: Global, input: &Input<'a>) -> Result<Line, AllocError>
     ensures { IfOk result (λ line. said_in line ≡ said_of_long input.now.kind input.now.word.now) }
 {
     match input.kind {
-        InputKind::Points => input_line(alloc, input.word, PointsRule::TooLong.fault(0, 0)),
+        InputKind::Points | InputKind::Frames => {
+            input_line(alloc, input.word, PointsRule::TooLong.fault(0, 0))
+        }
         InputKind::Certificate => fault_line(alloc, CertFault::too_long()),
     }
 }
@@ -111,7 +143,8 @@ fn read_input<'a, S: Shelf>(
     inputs: Inputs,
     shelf: &mut S,
 ) -> Result<Inputs, Refusal<'a>>
-    requires { IsSound inputs }
+    requires sound { IsSound inputs }
+    requires placed { IsPlaced input.now.kind (kinds_of (given_of inputs)) }
     ensures read { S.tells ≡ true → OnInputs
         (λ i. Reads (given_of inputs) (input_of input.now) (S.holds shelf.old) (Ok (given_of i)))
         (λ said. Reads (given_of inputs) (input_of input.now) (S.holds shelf.old) (Err said)) (λ w. Unit {0}) result }
@@ -140,6 +173,7 @@ pub fn read_inputs<'a, S: Shelf>(
     inputs: &[Input<'a>],
     shelf: &mut S,
 ) -> Result<Inputs, Refusal<'a>>
+    requires { AreInOrder (kinds_of nothing_given) (map input_of inputs.now) }
     ensures read { S.tells ≡ true → OnInputs
         (λ i. reads nothing_given (map input_of inputs.now) (S.holds shelf.old) ≡ Some (Ok (given_of i)))
         (λ said. reads nothing_given (map input_of inputs.now) (S.holds shelf.old) ≡ Some (Err said))
@@ -155,6 +189,7 @@ pub fn read_inputs<'a, S: Shelf>(
 {
     let mut read = Inputs {
         table: None,
+        frames: None,
         certificate: None,
     };
     for input in inputs {

@@ -5,8 +5,6 @@ mod halves;
 mod judge;
 mod outcome;
 mod row;
-#[cfg(test)]
-mod tests;
 mod tree;
 
 pub use judge::search;

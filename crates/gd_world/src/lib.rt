@@ -10,8 +10,6 @@ mod shelf;
 mod sink;
 mod streams;
 mod sure_shelf;
-#[cfg(test)]
-mod tests;
 
 pub use files::FileShelf;
 pub use mem_shelf::MemShelf;

@@ -42,13 +42,13 @@ returns-clause-right g c =
     let tasks = c.args.tasks.now in
     certificate_is_right (map q tasks) c.args.budget c.in_ok-judged.judged.verdicts.items _
     (rights q g.T.Task.feasible g.T.Task.inside g.T.Task.assignment c.show_laws.ensures tasks c.requires.numbers) c.requires.budget
-    (of-tasks q tasks c.args.budget c.in_ok-judged.judged.verdicts.items _ c.in_ok-judged.ensures)
+    (of-tasks q tasks c.args.budget c.in_ok-judged.judged.verdicts.items _ c.in_ok-judged.ensures.judged)
 
 pub returns-clause-fits : goal.returns-clause-fits
 returns-clause-fits g c =
     let q = g.T.Task.questions in
     let tasks = c.args.tasks.now in
-    let of = of-tasks q tasks c.args.budget c.in_ok-judged.judged.verdicts.items _ c.in_ok-judged.ensures in
+    let of = of-tasks q tasks c.args.budget c.in_ok-judged.judged.verdicts.items _ c.in_ok-judged.ensures.judged in
     let right = rights q g.T.Task.feasible g.T.Task.inside g.T.Task.assignment c.show_laws.ensures tasks c.requires.numbers in
     let count = length-map tasks q in
     let bounds = certificate_in_bounds (map q tasks) c.args.budget c.in_ok-judged.judged.verdicts.items _ right (rw count c.requires.some) (rw count c.requires.few) c.requires.budget of in (
@@ -61,8 +61,8 @@ pub returns-clause-means : goal.returns-clause-means
 returns-clause-means g c =
     let q = g.T.Task.questions in
     let tasks = c.args.tasks.now in
-    let of = of-tasks q tasks c.args.budget c.in_ok-judged.judged.verdicts.items _ c.in_ok-judged.ensures in
+    let of = of-tasks q tasks c.args.budget c.in_ok-judged.judged.verdicts.items _ c.in_ok-judged.ensures.judged in
     let right = rights q g.T.Task.feasible g.T.Task.inside g.T.Task.assignment c.show_laws.ensures tasks c.requires.numbers in
-    judged_meant q g.T.Task.feasible g.T.Task.inside g.T.Task.assignment c.show_laws.ensures tasks (c.args.budget / length tasks) c.in_ok-judged.judged.verdicts.items _ c.in_ok-judged.ensures
+    judged_meant q g.T.Task.feasible g.T.Task.inside g.T.Task.assignment c.show_laws.ensures tasks (c.args.budget / length tasks) c.in_ok-judged.judged.verdicts.items _ c.in_ok-judged.ensures.judged
     (judged_right (map q tasks) (c.args.budget / length tasks) c.in_ok-judged.judged.verdicts.items _ right
-    (share_is_small (map q tasks) c.args.budget c.in_ok-judged.judged.verdicts.items _ c.requires.budget of) c.in_ok-judged.ensures)
+    (share_is_small (map q tasks) c.args.budget c.in_ok-judged.judged.verdicts.items _ c.requires.budget of) c.in_ok-judged.ensures.judged)

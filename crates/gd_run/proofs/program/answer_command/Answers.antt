@@ -1,4 +1,3 @@
-use Rattle.std.proofs.Common.{◌≡◌}
 use Rattle.gd_run.proofs.Asked.{job_possible}
 use Rattle.gd_run.specs.Views.{answer_in, ask_of, given_of}
 use Rattle.gd_run.proofs.program.answer_command.Goals as goal

@@ -1,10 +1,8 @@
-use Rattle.std.proofs.Common.{arith, ◌≡◌, ◌≤◌, ◌∙◌, ap, map, subst, sym, true, List, ℕ}
-use Rattle.std.specs.String.{string_bytes}
+use Rattle.std.proofs.Common.{arith, ◌≡◌, ◌∙◌, sym}
 use Rattle.gd_report.specs.Said.{status_of}
 use Rattle.gd_run.proofs.Claimed.{means}
-use Rattle.gd_run.proofs.Laws.{answer_told, answered, four_is_wrong, in_range, same_files, wrong_is_four}
+use Rattle.gd_run.proofs.Laws.{answer_told, answered}
 use Rattle.gd_run.proofs.Stored.{leaves_valid, stores_valid}
-use Rattle.gd_run.specs.Endings.{Course, Ends}
 use Rattle.gd_run.proofs.program.run.Goals as goal
 
 pub returns-clause-answer : goal.returns-clause-answer
@@ -23,6 +21,12 @@ returns-clause-reject g c = λ shelf sink is.
     let code : status_of c.run_once.result ≡ 1 = sym c.status.ensures ∙ is in
     let e = answered _ (status_of c.run_once.result) (rw c.as_slice.ensures.value at c.run_once.ensures.ends) (λ h. omega (arith, h, code)) (λ h. omega (arith, h, code)) (λ h. omega (arith, h, code)) in
     record { printed = e.answer.said.text; so = (means _ _ e.answer (e.has.is shelf)).one (sym e.status ∙ code); written = e.written sink }
+
+pub returns-clause-open : goal.returns-clause-open
+returns-clause-open g c = λ shelf sink is.
+    let code : status_of c.run_once.result ≡ 2 = sym c.status.ensures ∙ is in
+    let e = answered _ (status_of c.run_once.result) (rw c.as_slice.ensures.value at c.run_once.ensures.ends) (λ h. omega (arith, h, code)) (λ h. omega (arith, h, code)) (λ h. omega (arith, h, code)) in
+    record { printed = e.answer.said.text; so = (means _ _ e.answer (e.has.is shelf)).two (sym e.status ∙ code); written = e.written sink }
 
 pub returns-clause-invalid : goal.returns-clause-invalid
 returns-clause-invalid g c = λ shelf sink is.

@@ -1,4 +1,4 @@
-use Rattle.std.proofs.Common.{◌≡◌, ap, map, true, List, ℕ}
+use Rattle.std.proofs.Common.{ap, map}
 use Rattle.std.specs.String.{string_bytes}
 use Rattle.gd_run.proofs.Ended.{calls_few, ends_of}
 use Rattle.gd_run.proofs.program.run_once.Goals as goal

@@ -1,9 +1,9 @@
-use Rattle.std.proofs.Common.{arith, rules, ◌≡◌, ◌∙◌, ap, sym, subst, map, option_map, codes, List, [], ◌∷◌, ℕ}
+use Rattle.std.proofs.Common.{arith, rules, ◌≡◌, ◌∙◌, ap, map, option_map, codes, [], ◌∷◌}
 use Rattle.std.specs.String.{string_bytes}
 use Rattle.gd_run.proofs.Asked.{asks_flat, five_words}
 use Rattle.gd_run.specs.Asks.{ForFlat, IsAskOf, IsSpelled}
 use Rattle.gd_run.specs.FlatCommand.{IsFlatRange, flat_words}
-use Rattle.gd_run.specs.Views.{ask_of, flat_of}
+use Rattle.gd_run.specs.Views.{flat_of}
 use Rattle.gd_run.proofs.command.Command.of.Goals as goal
 
 pub returns-in-flat-as_str : goal.returns-in-flat-as_str

@@ -1,4 +1,4 @@
-use Rattle.std.proofs.Common.{arith, ◌≡◌, ◌∙◌, ap, sym, decimal, ℕ}
+use Rattle.std.proofs.Common.{arith, ◌≡◌, ◌∙◌, ap, sym, decimal}
 use Rattle.std.proofs.lemmas.Fmt.{decimal_injective}
 use Rattle.gd_run.proofs.flat.FlatCommand.of.Goals as goal
 

@@ -1,9 +1,11 @@
 // Whole runs over memory, in which each call fails in turn. Ample memory never gives the status of want of memory.
-use crate::run;
 use gd_base::{Memory, Name2};
+use gd_run::run;
 use gd_world::{MemShelf, MemSink};
 use std::alloc::Global;
+use std::process::Abort;
 use std::test::Fail;
+use std::thread::Threads;
 
 const SADDLE: &str =
     "feature,group,x,y,z\ns,0,0,0,0\ns,0,1000,0,0\ns,0,0,1000,0\ns,0,1000,1000,10\n";
@@ -12,6 +14,9 @@ const CORNER: &str = "feature,group,x,y,z\na,0,0,0,0\na,0,1000,0,0\na,0,0,1000,0
 
 const CERTIFICATE: &str =
     "gdcert 1\nplain\nshare 5\ngroups 1\ngroup 1 reject\nr 1 2 1\nr 1 3 1\nr 1 4 1\nend\n";
+
+// What a run leaves: its status, what the sink holds, and what `c` and `p.csv` hold.
+type Left<'a> = (u8, &'a [u8], &'a [u8], &'a [u8]);
 
 // A part of four points, or of the corner of a cube, under `p.csv`, and what `c` holds where there is something.
 fn shelf_of(alloc: Global, points: &str, certificate: &str) -> Result<MemShelf, Memory> {
@@ -44,9 +49,34 @@ fn words_of(alloc: Global, line: &str) -> Result<Vec<String>, Memory> {
     Ok(words)
 }
 
+// Tries the words of a line. The call of the shelf of the first number fails and then leaves so many bytes, as does the
+// put of the last number; 0 fails none.
+fn try_run<R: Abort + Threads + Sync>(
+    rt: &R,
+    alloc: Global,
+    mut shelf: MemShelf,
+    line: &str,
+    faults: (u64, u64, u64),
+    want: Left<'_>,
+) -> Result<(), Fail> {
+    let words = words_of(alloc, line)?;
+    shelf.fail.push(faults.0)?;
+    shelf.prefix = faults.1;
+    let mut out = MemSink::new(alloc);
+    out.fail.push(faults.2)?;
+    let ended = run(rt, alloc, &words, &mut shelf, &mut out);
+    let left = (
+        ended.0,
+        out.bytes.as_slice(),
+        held(&shelf, "c"),
+        held(&shelf, "p.csv"),
+    );
+    assert_eq!(rt; left, want, "{line}, {faults:?}");
+    Ok(())
+}
+
 #[test]
 fn runs_over_memory(rt: HostRuntime) -> Result<(), Fail> {
-    let alloc = rt.alloc();
     // Words, the load and the put that fail, if any, the status, and what the sink holds.
     let cases = [
         (
@@ -85,28 +115,19 @@ fn runs_over_memory(rt: HostRuntime) -> Result<(), Fail> {
         ("flat p.csv 10", 0, 0, 4, "gdteval: wrong words\n"),
         ("flat p.csv 10", 0, 1, 6, "gdteval: w"),
     ];
+    let points = SADDLE.as_bytes();
     for (line, load, put, status, text) in cases {
-        let words = words_of(alloc, line)?;
-        let mut shelf = shelf_of(alloc, SADDLE, "")?;
-        shelf.fail.push(load)?;
-        let mut out = MemSink::new(alloc);
-        out.fail.push(put)?;
-        let ended = run(&rt, alloc, &words, &mut shelf, &mut out);
-        assert_eq!(rt; ended.0, status, "{line}, load {load}, put {put}");
-        assert_eq!(rt;
-            out.bytes.as_slice(),
-            text.as_bytes(),
-            "{line}, load {load}, put {put}"
-        );
+        let shelf = shelf_of(rt.alloc(), SADDLE, "")?;
+        let want = (status, text.as_bytes(), b"".as_slice(), points);
+        try_run(&rt, rt.alloc(), shelf, line, (load, 0, put), want)?;
     }
     Ok(())
 }
 
 #[test]
 fn calls_fail_in_turn(rt: HostRuntime) -> Result<(), Fail> {
-    let alloc = rt.alloc();
-    // Words, what `c` holds before, the call of the shelf that fails and how many bytes it then leaves, the put that fails,
-    // the status, what the sink holds, and what `c` holds after.
+    // Words, what `c` holds before, the call of the shelf that fails and how many bytes it then leaves, the put that
+    // fails, the status, what the sink holds, and what `c` holds after.
     let flat = "flat p.csv 10 5 c";
     let check = "checkflat p.csv 10 c";
     let unread = "gdteval: cannot read p.csv\n";
@@ -133,23 +154,11 @@ fn calls_fail_in_turn(rt: HostRuntime) -> Result<(), Fail> {
         (check, "x", (0, 0, 0), 8, "invalid line 1 code 45\n", "x"),
         (check, "x", (0, 0, 1), 6, "invalid lin", "x"),
     ];
-    for (line, before, (call, part, put), status, text, after) in cases {
-        let words = words_of(alloc, line)?;
-        let mut shelf = shelf_of(alloc, CORNER, before)?;
-        shelf.fail.push(call)?;
-        shelf.prefix = part;
-        let mut out = MemSink::new(alloc);
-        out.fail.push(put)?;
-        let ended = run(&rt, alloc, &words, &mut shelf, &mut out);
-        let case = (call, part, put);
-        assert_eq!(rt; ended.0, status, "{line}, {case:?}");
-        assert_eq!(rt; out.bytes.as_slice(), text.as_bytes(), "{line}, {case:?}");
-        assert_eq!(rt; held(&shelf, "c"), after.as_bytes(), "{line}, {case:?}");
-        assert_eq!(rt;
-            held(&shelf, "p.csv"),
-            CORNER.as_bytes(),
-            "{line}, {case:?}"
-        );
+    let points = CORNER.as_bytes();
+    for (line, before, faults, status, text, after) in cases {
+        let shelf = shelf_of(rt.alloc(), CORNER, before)?;
+        let want = (status, text.as_bytes(), after.as_bytes(), points);
+        try_run(&rt, rt.alloc(), shelf, line, faults, want)?;
     }
     Ok(())
 }

@@ -1,7 +1,7 @@
 // Outcomes of a small task, and the threads of its levels.
-use crate::{Outcome, search};
 use gd_base::Reason;
 use gd_cells::{Cell, MOST_DIMS, Node};
+use gd_search::{Outcome, search};
 use gd_toys::{Toy, Watch};
 use gd_verdict::leaves;
 use std::alloc::{AllocError, Global};

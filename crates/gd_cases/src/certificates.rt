@@ -1,6 +1,6 @@
 // Certificates of a small task: a valid one of each verdict, and one for each code.
-use crate::{CheckAnswer, check};
 use gd_cert::read_cert;
+use gd_check::{CheckAnswer, check};
 use gd_toys::Toy;
 use std::alloc::{AllocError, Global};
 use std::test::Fail;
@@ -19,15 +19,9 @@ fn toy(shows: bool, depth: u32) -> Toy<'static, ()> {
 
 // The lines of a tree from a letter a line: `s`, `r` or `o`.
 fn tree_lines(alloc: Global, letters: &str) -> Result<String, AllocError> {
-    let mut lines = String::new(alloc);
-    for letter in letters.chars() {
-        lines.push(letter)?;
-        if letter == 'r' {
-            lines.push_str(" 1 1 0")?;
-        }
-        lines.push('\n')?;
-    }
-    Ok(lines)
+    let lines = letters.replace(alloc, "r", "r 1 1 0\n")?;
+    let lines = lines.replace(alloc, "s", "s\n")?;
+    lines.replace(alloc, "o", "o\n")
 }
 
 // The line and the code of what is wrong with a certificate of one group: 0 and 0 where it is valid, and none where its

@@ -1,7 +1,5 @@
-use super::*;
-use gd_base::ReadFault;
-use gd_points::read_points;
-use std::alloc::{AllocError, Global};
+// Frame files with one thing wrong at each place where it can stand, and with two things wrong.
+use crate::frame_cases::{Piece, try_lines};
 use std::test::Fail;
 
 // Planes p with three contact groups and q with two, a hole h, a pin m, axes a, b, c and a sphere s.
@@ -30,7 +28,7 @@ datum = [
 ]
 ";
 
-// Whole files without features. A case has the fault, and the text with `;` for the end of a line.
+// Whole files without features.
 const TOP_LEVELS: &str = "\
 23 0 0 | # nothing
 20 0 0 | version
@@ -77,10 +75,10 @@ const FEATURE_AND_DATUM_TABLES: &str = "\
 23 1 1 | feature = [{name = 's', shape = 'sphere'}]
 25 1 1 | feature = [{name = 's', shape = 'sphere', point = [0, 0, 0], radius = -1}]
 25 1 1 | feature = [{name = 's', shape = 'sphere', point = [0, 0, 0], radius = 8000001}]
-28 2 1 | feature = [{name = 's', shape = 'sphere', point = [0, 0, 0]}, {name = 's'}]
-26 1 2 | feature = [{name = 's', shape = 'sphere', point = [0, 0, 0]}]; datum = [{name = 'D', feature = 'p'}]
-25 1 2 | feature = [{name = 's', shape = 'sphere', point = [0, 0, 0]}]; datum = [{name = 'D', feature = 's', slack = 10001}]
-28 2 2 | feature = [{name = 's', shape = 'sphere', point = [0, 0, 0]}]; datum = [{name = 'D', feature = 's'}, {name = 'D'}]";
+28 2 1 | feature = [SPHERE, {name = 's'}]
+26 1 2 | feature = [SPHERE]; datum = [{name = 'D', feature = 'p'}]
+25 1 2 | feature = [SPHERE]; datum = [{name = 'D', feature = 's', slack = 10001}]
+28 2 2 | feature = [SPHERE]; datum = [{name = 'D', feature = 's'}, {name = 'D'}]";
 
 // Keys of a frame table behind the features and datums above.
 const FRAME_TABLES: &str = "\
@@ -134,67 +132,27 @@ read 8 5 1 | kind = 'parallelism', features = ['a', 'b', 'p'], tolerance = 10, d
 read 8 5 1 | kind = 'circular_runout', features = ['p'], tolerance = 10, datums = ['H'], separate = true
 24 1 3 | kind = 'circular_runout', features = ['p'], tolerance = 10, datums = ['H'], separate = 1";
 
-/// What a reader answers: how many features, datums and frames it read, or the code, the row and the column of a fault.
-pub(crate) fn told(alloc: Global, points: &str, text: &[u8]) -> Result<String, AllocError> {
-    let Ok(points) = read_points(alloc, points.as_bytes()) else {
-        return String::from_str(alloc, "no points");
-    };
-    match read_frames(alloc, text, &points) {
-        Ok(file) => {
-            let (features, datums, frames) = (
-                file.features.len(),
-                file.datums.len(),
-                file.frames.len(),
-            );
-            format!(in alloc; "read {features} {datums} {frames}")
-        }
-        Err(ReadFault::Input(fault)) => {
-            let (code, row, column) = (fault.code, fault.row, fault.column);
-            format!(in alloc; "{code} {row} {column}")
-        }
-        Err(ReadFault::Memory) => String::from_str(alloc, "no memory"),
-    }
-}
+const SPHERE: &str = "{name = 's', shape = 'sphere', point = [0, 0, 0]}";
+
+const PIECES: [Piece; 3] = [
+    ("POINTS", POINTS),
+    ("FEATURES", FEATURES),
+    ("SPHERE", SPHERE),
+];
 
 #[test]
 fn top_levels(rt: HostRuntime) -> Result<(), Fail> {
-    for line in TOP_LEVELS.lines() {
-        let (want, case) = line.split_once(" | ").unwrap_or((line, ""));
-        let text = case.replace(rt.alloc(), "; ", "\n")?;
-        assert_eq!(rt;
-            told(rt.alloc(), POINTS, text.as_bytes())?.as_str(),
-            want,
-            "{line}"
-        );
-    }
-    Ok(())
+    try_lines(&rt, rt.alloc(), &PIECES, "POINTS | CASE", TOP_LEVELS)
 }
 
 #[test]
 fn features_and_datums(rt: HostRuntime) -> Result<(), Fail> {
-    for line in FEATURE_AND_DATUM_TABLES.lines() {
-        let (want, case) = line.split_once(" | ").unwrap_or((line, ""));
-        let tables = case.replace(rt.alloc(), "; ", "\n")?;
-        let text = format!(in rt.alloc(); "version = 1\nframe = [{{}}]\n{tables}")?;
-        assert_eq!(rt;
-            told(rt.alloc(), POINTS, text.as_bytes())?.as_str(),
-            want,
-            "{line}"
-        );
-    }
-    Ok(())
+    let shape = "POINTS | version = 1; frame = [{}]; CASE";
+    try_lines(&rt, rt.alloc(), &PIECES, shape, FEATURE_AND_DATUM_TABLES)
 }
 
 #[test]
 fn frames(rt: HostRuntime) -> Result<(), Fail> {
-    for line in FRAME_TABLES.lines() {
-        let (want, case) = line.split_once(" | ").unwrap_or((line, ""));
-        let text = format!(in rt.alloc(); "{FEATURES}frame = [{{name = 'f', {case}}}]\n")?;
-        assert_eq!(rt;
-            told(rt.alloc(), POINTS, text.as_bytes())?.as_str(),
-            want,
-            "{line}"
-        );
-    }
-    Ok(())
+    let shape = "POINTS | FEATURES; frame = [{name = 'f', CASE}]; ";
+    try_lines(&rt, rt.alloc(), &PIECES, shape, FRAME_TABLES)
 }

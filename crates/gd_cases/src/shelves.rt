@@ -1,16 +1,48 @@
-// What no clause says: that calls succeed, what real files do, and faults in mid-stream.
-use crate::streams::read_all;
-use crate::{
+// What no clause says of shelves and sinks: that calls succeed, what real files do, and faults in mid-stream.
+use crate::slow_files::SlowFiles;
+use gd_base::{Memory, Name2};
+use gd_world::{
     FileShelf, LoadFault, MemShelf, MemSink, PutFault, Shelf, Sink, StdSink, StoreFault, SureShelf,
 };
-use gd_base::Name2;
+use std::alloc::Global;
 use std::cell::Cell;
 use std::fmt::Display;
-use std::io::{ErrorKind, Read};
+use std::io::ErrorKind;
 use std::test::Fail;
 use std::{fs, io};
 
-// A store of five bytes, with one call of four due to fail.
+// What a name holds.
+fn loaded<S: Shelf>(alloc: Global, shelf: &mut S, name: &str) -> Result<Vec<u8>, LoadFault> {
+    let mut into = Vec::new(alloc);
+    shelf.load(alloc, name, &mut into)?;
+    Ok(into)
+}
+
+// A file with its name.
+fn file(alloc: Global, name: &str, text: &str) -> Result<(Name2, Vec<u8>), Memory> {
+    let name = Name2::of(alloc, name)?;
+    Ok((name, Vec::from_slice(alloc, text.as_bytes())?))
+}
+
+// Older bytes under `a`, with one call due to fail, which then leaves so many bytes.
+fn shelf_due(alloc: Global, due: u64, prefix: u64) -> Result<MemShelf, Memory> {
+    let mut shelf = MemShelf::new(alloc);
+    let (name, bytes) = file(alloc, "a", "older")?;
+    shelf.add(name, bytes)?;
+    shelf.fail.push(due)?;
+    shelf.prefix = prefix;
+    Ok(shelf)
+}
+
+// Which of four calls fail: a load, a store of five bytes, a load of a name that isn't there, and a store under it.
+fn failures(alloc: Global, shelf: &mut MemShelf) -> (bool, bool, bool, bool) {
+    let load = loaded(alloc, shelf, "a").is_err();
+    let store = shelf.store(alloc, "a", b"fresh").is_err();
+    let missing = loaded(alloc, shelf, "b").is_err();
+    let last = shelf.store(alloc, "b", b"other").is_err();
+    (load, store, missing, last)
+}
+
 #[test]
 fn calls_in_memory_fail_in_turn(rt: HostRuntime) -> Result<(), Fail> {
     let alloc = rt.alloc();
@@ -24,27 +56,16 @@ fn calls_in_memory_fail_in_turn(rt: HostRuntime) -> Result<(), Fail> {
         (4, 3, "fresh", 2, true),
     ];
     for (due, prefix, want, faults, storing) in cases {
-        let mut shelf = MemShelf::new(alloc);
-        shelf.add(Name2::of(alloc, "a")?, Vec::from_slice(alloc, b"older")?)?;
-        shelf.fail.push(due)?;
-        shelf.prefix = prefix;
-        let mut into = Vec::new(alloc);
-        let load = shelf.load(alloc, "a", &mut into);
-        assert_eq!(rt; load.is_err(), due == 1, "load, due {due}");
-        let store = shelf.store(alloc, "a", b"fresh");
-        assert_eq!(rt; store.is_err(), due == 2, "store, due {due}");
-        let missing = shelf.load(alloc, "b", &mut into);
-        assert_eq!(rt; missing, Err(LoadFault::Failed), "missing, due {due}");
-        let last = shelf.store(alloc, "b", b"other");
-        assert_eq!(rt; last.is_err(), due == 4, "last, due {due}");
-        assert_eq!(rt; shelf.faults, faults, "faults, due {due}");
-        assert_eq!(rt; shelf.storing, storing, "kind, due {due}");
-        assert_eq!(rt; shelf.failed.as_slice(), b"b".as_slice(), "word, due {due}");
-        shelf.load(alloc, "a", &mut into)?;
+        let mut shelf = shelf_due(alloc, due, prefix)?;
+        let failed = failures(alloc, &mut shelf);
+        assert_eq!(rt; failed, (due == 1, due == 2, true, due == 4), "due {due}");
+        let noted = (shelf.faults, shelf.storing, shelf.failed.as_slice());
+        assert_eq!(rt; noted, (faults, storing, b"b".as_slice()), "due {due}");
+        let left = loaded(alloc, &mut shelf, "a")?;
         assert_eq!(rt;
-            into.as_slice(),
+            left.as_slice(),
             want.as_bytes(),
-            "bytes, due {due} prefix {prefix}"
+            "due {due}, {prefix} bytes"
         );
     }
     Ok(())
@@ -54,18 +75,13 @@ fn calls_in_memory_fail_in_turn(rt: HostRuntime) -> Result<(), Fail> {
 fn sure_names_hold_an_entry_or_the_default(rt: HostRuntime) -> Result<(), Fail> {
     let alloc = rt.alloc();
     let mut files = Vec::new(alloc);
-    for text in ["first", "second"] {
-        files.push((
-            Name2::of(alloc, "a")?,
-            Vec::from_slice(alloc, text.as_bytes())?,
-        ))?;
-    }
+    files.push(file(alloc, "a", "first")?)?;
+    files.push(file(alloc, "a", "second")?)?;
     let mut shelf = SureShelf::with(files, Vec::from_slice(alloc, b"default")?);
-    let mut into = Vec::new(alloc);
     shelf.store(alloc, "c", b"stored")?;
     for (name, want) in [("a", "first"), ("b", "default"), ("c", "stored")] {
-        shelf.load(alloc, name, &mut into)?;
-        assert_eq!(rt; into.as_slice(), want.as_bytes(), "{name}");
+        let held = loaded(alloc, &mut shelf, name)?;
+        assert_eq!(rt; held.as_slice(), want.as_bytes(), "{name}");
     }
     Ok(())
 }
@@ -83,94 +99,59 @@ fn puts_in_memory_fail_in_turn(rt: HostRuntime) -> Result<(), Fail> {
     Ok(())
 }
 
-const NAME: &str = "gd_world_test_file";
+const NAME: &str = "gd_cases_test_file";
 
 #[test]
 fn real_files(rt: HostRuntime) -> Result<(), Fail> {
     let alloc = rt.alloc();
     let mut shelf = FileShelf::new(&rt, alloc);
-    let mut into = Vec::new(alloc);
     shelf.store(alloc, NAME, b"a longer text")?;
     shelf.store(alloc, NAME, b"a text")?;
-    shelf.load(alloc, NAME, &mut into)?;
-    assert_eq!(rt; into.as_slice(), b"a text".as_slice());
+    let held = loaded(alloc, &mut shelf, NAME)?;
+    assert_eq!(rt; held.as_slice(), b"a text".as_slice());
+    fs::remove_file(&rt, NAME)?;
+    Ok(())
+}
+
+#[test]
+fn names_of_no_file(rt: HostRuntime) -> Result<(), Fail> {
+    let alloc = rt.alloc();
+    let mut shelf = FileShelf::new(&rt, alloc);
     for name in ["", ".", "no such file", "a zero \0 byte"] {
-        let load = shelf.load(alloc, name, &mut into);
-        assert_eq!(rt; load, Err(LoadFault::Failed), "{name}");
-        assert!(rt; into.is_empty());
+        let fault = loaded(alloc, &mut shelf, name).err();
+        assert_eq!(rt; fault, Some(LoadFault::Failed), "{name}");
     }
     for name in ["", ".", "no such folder/file", "a zero \0 byte"] {
         let store = shelf.store(alloc, name, b"a text");
         assert_eq!(rt; store, Err(StoreFault::Failed), "{name}");
     }
-    fs::remove_file(&rt, NAME)?;
     Ok(())
 }
 
-const LONG_NAME: &str = "gd_world_long_test_file";
+const LONG_NAME: &str = "gd_cases_long_test_file";
 
 #[test]
 fn long_files(rt: HostRuntime) -> Result<(), Fail> {
     let alloc = rt.alloc();
     let mut shelf = FileShelf::new(&rt, alloc);
-    let mut into = Vec::new(alloc);
     let file = fs::create(&rt, LONG_NAME)?;
     file.set_len(134_217_728)?;
-    shelf.load(alloc, LONG_NAME, &mut into)?;
-    assert_eq!(rt; into.len(), 134_217_728);
+    assert_eq!(rt; loaded(alloc, &mut shelf, LONG_NAME)?.len(), 134_217_728);
     file.set_len(134_217_729)?;
-    assert_eq!(rt;
-        shelf.load(alloc, LONG_NAME, &mut into),
-        Err(LoadFault::TooLong)
-    );
-    assert!(rt; into.is_empty());
+    let fault = loaded(alloc, &mut shelf, LONG_NAME).err();
+    assert_eq!(rt; fault, Some(LoadFault::TooLong));
     fs::remove_file(&rt, LONG_NAME)?;
     Ok(())
 }
 
-// A reader that gives a byte a read. Each even read is interrupted, and the one of number `fault` fails.
-#[derive(Drop)]
-struct Slow {
-    reads: usize,
-    fault: usize,
-    left: usize,
-}
-
-impl Read for Slow {
-    fn read(&mut self, buf: &mut [u8]) -> io::Result<usize> {
-        self.reads = self.reads.saturating_add(1);
-        if self.reads == self.fault {
-            return Err(io::Error::from(ErrorKind::TimedOut));
-        }
-        if self.reads % 2 == 0 {
-            return Err(io::Error::from(ErrorKind::Interrupted));
-        }
-        if self.left == 0 || buf.is_empty() {
-            return Ok(0);
-        }
-        self.left -= 1;
-        buf[0] = b'x';
-        Ok(1)
-    }
-}
-
 #[test]
 fn a_read_fails_in_mid_stream(rt: HostRuntime) -> Result<(), Fail> {
-    let alloc = rt.alloc();
-    let failed = Err(LoadFault::Failed);
-    for (fault, want, length) in [(0, Ok(()), 3), (4, failed, 2), (7, failed, 3)] {
-        let mut into = Vec::new(alloc);
-        let mut slow = Slow {
-            reads: 0,
-            fault,
-            left: 3,
-        };
-        assert_eq!(rt;
-            read_all(alloc, &mut slow, &mut into),
-            want,
-            "fault {fault}"
-        );
-        assert_eq!(rt; into.len(), length, "fault {fault}");
+    let failed = Some(LoadFault::Failed);
+    for (fault, want) in [(0, None), (4, failed), (7, failed)] {
+        let files = SlowFiles { fault, length: 3 };
+        let mut shelf = FileShelf::new(&files, rt.alloc());
+        let got = loaded(rt.alloc(), &mut shelf, "a").err();
+        assert_eq!(rt; got, want, "fault {fault}");
     }
     Ok(())
 }

@@ -1,5 +1,5 @@
-use crate::tests::told;
-use std::alloc::{AllocError, Global};
+// Whole frame files: those of parts, the smallest of each code, and those at the limits.
+use crate::frame_cases::{told, try_lines};
 use std::test::Fail;
 
 const SADDLE: &str = "feature,group,x,y,z
@@ -115,7 +115,7 @@ frame = [
 ";
 
 // A datum hole, and a hole beside it.
-const HOLE: &str = "feature,group,x,y,z
+const AT_HOLE: &str = "feature,group,x,y,z
 d,1,1000,0,0\nd,2,-1000,0,0\nd,3,0,1000,0\nd,4,0,-1000,0
 h,0,10518,0,0\nh,0,9518,0,0\nh,0,10018,500,0\nh,0,10018,-500,0\n";
 
@@ -165,8 +165,20 @@ frame = [
 ]
 ";
 
-// Whole files, with `;` for the end of a line: what a reader tells, the points, and the text. A word in capitals stands
-// for the text of that name.
+// A hole at its maximum material condition, and a position of 10 units on each of two axes or on both.
+const HOLE_FRAME: &str =
+    "frame = [{name = 'm', kind = 'position', features = ['h'], tolerance = 10, material = 'mmc', ";
+
+const ON_ONE: &str =
+    "{name = 'f1', kind = 'position', features = ['h1'], tolerance = 10, datums = ['D(M)']";
+
+const ON_TWO: &str =
+    "{name = 'f2', kind = 'position', features = ['h2'], tolerance = 10, datums = ['D(M)']";
+
+const ON_BOTH: &str =
+    "{name = 'pat', kind = 'position', features = ['h1', 'h2'], tolerance = 100, datums = ['D(M)']";
+
+// Files of whole parts, with their points.
 const WHOLE_FILES: &str = "\
 read 1 0 1 | SADDLE | LEAST
 read 2 2 2 | BORED | EVERYTHING
@@ -174,30 +186,30 @@ read 1 0 1 | CIRCLE | ROUND
 read 7 3 1 | PLATE | version = 1; turn = 6; shift = 14; POSITION
 read 7 3 1 | MOVED | version = 1; turn = 20; shift = 4; POSITION
 29 1 3 | TWICE | version = 1; turn = 6; shift = 14; POSITION
-read 2 1 1 | HOLE | DATUM AT_MMC; frame = [{name = 'm', kind = 'position', features = ['h'], tolerance = 10, material = 'mmc', datums = ['D(M)']}]
-read 2 1 1 | HOLE | DATUM AT_MMC; frame = [{name = 'm', kind = 'position', features = ['h'], tolerance = 10, material = 'mmc', datums = ['D']}]
-read 2 1 1 | HOLE | DATUM AT_FIVE; frame = [{name = 'm', kind = 'position', features = ['h'], tolerance = 10, material = 'mmc', datums = ['D(M)']}]
-read 3 1 2 | PAIR | DATUM TWO_AXES; frame = [{name = 'f1', kind = 'position', features = ['h1'], tolerance = 10, datums = ['D(M)']}, {name = 'f2', kind = 'position', features = ['h2'], tolerance = 10, datums = ['D(M)']}]
-read 3 1 2 | PAIR | DATUM TWO_AXES; frame = [{name = 'f1', kind = 'position', features = ['h1'], tolerance = 10, datums = ['D(M)'], separate = true}, {name = 'f2', kind = 'position', features = ['h2'], tolerance = 10, datums = ['D(M)'], separate = true}]
-read 3 1 1 | PAIR | DATUM TWO_AXES; frame = [{name = 'pat', kind = 'position', features = ['h1', 'h2'], tolerance = 100, datums = ['D(M)'], lower = 10, lower_datums = ['D(M)']}]
+read 2 1 1 | AT_HOLE | DATUM AT_MMC; HOLE_FRAME datums = ['D(M)']}]
+read 2 1 1 | AT_HOLE | DATUM AT_MMC; HOLE_FRAME datums = ['D']}]
+read 2 1 1 | AT_HOLE | DATUM AT_FIVE; HOLE_FRAME datums = ['D(M)']}]
+read 3 1 2 | PAIR | DATUM TWO_AXES; frame = [ON_ONE}, ON_TWO}]
+read 3 1 2 | PAIR | DATUM TWO_AXES; frame = [ON_ONE, separate = true}, ON_TWO, separate = true}]
+read 3 1 1 | PAIR | DATUM TWO_AXES; frame = [ON_BOTH, lower = 10, lower_datums = ['D(M)']}]
 read 2 1 2 | SEAT | RUNOUT";
 
-fn points_named(name: &str) -> &str {
-    match name {
-        "SADDLE" => SADDLE,
-        "BORED" => BORED,
-        "CIRCLE" => CIRCLE,
-        "PLATE" => PLATE,
-        "MOVED" => MOVED,
-        "TWICE" => TWICE,
-        "HOLE" => HOLE,
-        "PAIR" => PAIR,
-        _ => SEAT,
-    }
-}
-
-fn filled(alloc: Global, case: &str) -> Result<String, AllocError> {
+#[test]
+fn whole_files(rt: HostRuntime) -> Result<(), Fail> {
     let pieces = [
+        ("SADDLE", SADDLE),
+        ("BORED", BORED),
+        ("CIRCLE", CIRCLE),
+        ("PLATE", PLATE),
+        ("MOVED", MOVED),
+        ("TWICE", TWICE),
+        ("AT_HOLE", AT_HOLE),
+        ("HOLE_FRAME", HOLE_FRAME),
+        ("ON_ONE", ON_ONE),
+        ("ON_TWO", ON_TWO),
+        ("ON_BOTH", ON_BOTH),
+        ("PAIR", PAIR),
+        ("SEAT", SEAT),
         ("LEAST", LEAST),
         ("EVERYTHING", EVERYTHING),
         ("ROUND", ROUND),
@@ -208,27 +220,10 @@ fn filled(alloc: Global, case: &str) -> Result<String, AllocError> {
         ("TWO_AXES", TWO_AXES),
         ("RUNOUT", RUNOUT),
     ];
-    let mut text = case.replace(alloc, "; ", "\n")?;
-    for (name, piece) in pieces {
-        text = text.replace(alloc, name, piece)?;
-    }
-    Ok(text)
+    try_lines(&rt, rt.alloc(), &pieces, "CASE", WHOLE_FILES)
 }
 
-#[test]
-fn whole_files(rt: HostRuntime) -> Result<(), Fail> {
-    for line in WHOLE_FILES.lines() {
-        let (want, case) = line.split_once(" | ").unwrap_or((line, ""));
-        let (points, case) = case.split_once(" | ").unwrap_or((case, ""));
-        let text = filled(rt.alloc(), case)?;
-        let got = told(rt.alloc(), points_named(points), text.as_bytes())?;
-        assert_eq!(rt; got.as_str(), want, "{line}");
-    }
-    Ok(())
-}
-
-// The smallest file of each code, as docs/FORMATS.md has it, with `;` for the end of a line; those of 32 and 34 stand
-// below.
+// The smallest file of each code, as docs/FORMATS.md has it; those of 32 and 34 stand below.
 const SMALLEST: &str = "\
 20 0 0 | v
 21 0 0 | version = 2
@@ -237,30 +232,35 @@ const SMALLEST: &str = "\
 24 0 0 | version = '1'
 25 0 0 | version = 1; turn = 21; FRAME; FEATURE
 26 1 3 | version = 1; FEATURE; frame = [{name = 'top', kind = 'flatness', features = ['x'], tolerance = 10}]
-27 1 3 | version = 1; FEATURE; frame = [{name = 'top', kind = 'flatness', features = ['s'], tolerance = 10, datums = ['X']}]
+27 1 3 | version = 1; FEATURE; frame = [{TOP, datums = ['X']}]
 28 2 1 | version = 1; FRAME; feature = [TABLE, TABLE]
-29 1 3 | version = 1; FEATURE; datum = [{name = 'D', feature = 's'}]; frame = [{name = 'top', kind = 'profile', features = ['s'], tolerance = 10, datums = ['D']}]
+29 1 3 | version = 1; FEATURE; datum = [DATUM]; frame = [{PROFILE, datums = ['D']}]
 30 1 1 | version = 1; FRAME; feature = [{name = 's', shape = 'plane', direction = [0, 0, 0], point = [0, 0, 0]}]
-31 1 3 | version = 1; FEATURE; frame = [{name = 'top', kind = 'flatness', features = ['s'], tolerance = 10, material = 'mmc'}]";
+31 1 3 | version = 1; FEATURE; frame = [{TOP, material = 'mmc'}]";
 
-const FRAME: &str = "frame = [{name = 'top', kind = 'flatness', features = ['s'], tolerance = 10}]";
+const TOP: &str = "name = 'top', kind = 'flatness', features = ['s'], tolerance = 10";
 
 const TABLE: &str = "{name = 's', shape = 'plane', direction = [0, 0, 1], point = [0, 0, 0]}";
 
 #[test]
 fn smallest_files(rt: HostRuntime) -> Result<(), Fail> {
-    for line in SMALLEST.lines() {
-        let (want, case) = line.split_once(" | ").unwrap_or((line, ""));
-        let text = case.replace(rt.alloc(), "FEATURE", "feature = [TABLE]")?;
-        let text = text.replace(rt.alloc(), "TABLE", TABLE)?;
-        let text = text.replace(rt.alloc(), "FRAME", FRAME)?;
-        let text = text.replace(rt.alloc(), "; ", "\n")?;
-        assert_eq!(rt;
-            told(rt.alloc(), SADDLE, text.as_bytes())?.as_str(),
-            want,
-            "{line}"
-        );
-    }
+    let pieces = [
+        ("SADDLE", SADDLE),
+        ("FEATURE", "feature = [TABLE]"),
+        ("TABLE", TABLE),
+        ("FRAME", "frame = [{TOP}]"),
+        ("TOP", TOP),
+        (
+            "PROFILE",
+            "name = 'top', kind = 'profile', features = ['s'], tolerance = 10",
+        ),
+        ("DATUM", "{name = 'D', feature = 's'}"),
+    ];
+    try_lines(&rt, rt.alloc(), &pieces, "SADDLE | CASE", SMALLEST)
+}
+
+#[test]
+fn other_bytes_than_text(rt: HostRuntime) -> Result<(), Fail> {
     let got = told(
         rt.alloc(),
         SADDLE,
@@ -270,54 +270,34 @@ fn smallest_files(rt: HostRuntime) -> Result<(), Fail> {
     Ok(())
 }
 
-// A text of as many empty tables.
-fn empty_tables(alloc: Global, key: &str, count: usize) -> Result<String, AllocError> {
-    let mut text = format!(in alloc; "version = 1\n{key} = [")?;
-    for _ in 0..count {
-        text.push_str("{},")?;
-    }
-    text.push_str("]\n")?;
-    Ok(text)
-}
+// A list at its limit is read on, up to its first table. One table more is a fault of the top level, and comes after a
+// fault of `centre` there.
+const LONG_LISTS: &str = "\
+23 1 1 | feature = [<1024 {}, # @; >]; frame = [{}]
+25 0 0 | feature = [<1025 {}, # @; >]; frame = [{}]
+24 0 0 | feature = [<1025 {}, # @; >]; frame = [{}]; centre = 1
+23 1 2 | datum = [<64 {}, # @; >]; frame = [{}]
+25 0 0 | datum = [<65 {}, # @; >]; frame = [{}]
+24 0 0 | datum = [<65 {}, # @; >]; frame = [{}]; centre = 1
+23 1 3 | frame = [<256 {}, # @; >]
+25 0 0 | frame = [<257 {}, # @; >]
+24 0 0 | frame = [<257 {}, # @; >]; centre = 1";
 
-// A list at its limit is read on, up to its first table, and one table more is a fault of the top level.
 #[test]
 fn long_lists(rt: HostRuntime) -> Result<(), Fail> {
-    let cases = [
-        ("feature", 1_024, "frame = [{}]", "23 1 1"),
-        ("feature", 1_025, "frame = [{}]", "25 0 0"),
-        ("datum", 64, "frame = [{}]", "23 1 2"),
-        ("datum", 65, "frame = [{}]", "25 0 0"),
-        ("frame", 256, "", "23 1 3"),
-        ("frame", 257, "", "25 0 0"),
-    ];
-    for (key, count, tail, want) in cases {
-        let mut text = empty_tables(rt.alloc(), key, count)?;
-        text.push_str(tail)?;
-        let got = told(rt.alloc(), SADDLE, text.as_bytes())?;
-        assert_eq!(rt; got.as_str(), want, "{count} of {key}");
-    }
-    Ok(())
+    try_lines(
+        &rt,
+        rt.alloc(),
+        &[("SADDLE", SADDLE)],
+        "SADDLE | version = 1; CASE",
+        LONG_LISTS,
+    )
 }
 
-// Points of five pins: 1,000 groups each of the first four, and so many of the last. The datum `d` has three.
-fn five_pins(alloc: Global, last: u32) -> Result<String, AllocError> {
-    let mut text = String::new(alloc);
-    text.push_str("feature,group,x,y,z\nd,1,9,0,0\nd,2,0,9,0\nd,3,-9,0,0\n")?;
-    for (name, groups) in [
-        ("p1", 1_000),
-        ("p2", 1_000),
-        ("p3", 1_000),
-        ("p4", 1_000),
-        ("p5", last),
-    ] {
-        for group in 0..groups {
-            let line = format!(in alloc; "{name},{group},9,0,0\n")?;
-            text.push_str(line.as_str())?;
-        }
-    }
-    Ok(text)
-}
+// Five pins: 1,000 groups each of the first four, and none of the last so far. The datum `d` has three.
+const PIN_POINTS: &str = "feature,group,x,y,z
+d,1,9,0,0\nd,2,0,9,0\nd,3,-9,0,0
+<1000 p1,@,9,0,0\n><1000 p2,@,9,0,0\n><1000 p3,@,9,0,0\n><1000 p4,@,9,0,0\n>";
 
 const PINS: &str = "version = 1
 feature = [
@@ -335,22 +315,68 @@ const CIRCULAR: &str =
     "{name = 'c', kind = 'circular_runout', features = ['p1', 'p2', 'p3', 'p4', 'p5'], tolerance = 9, datums = ['D']}";
 
 const PARALLEL: &str =
-    "{name = 'p', kind = 'parallelism', features = ['p1', 'p2', 'p3'], tolerance = 9, material = 'mmc', datums = ['D']}";
+    "{name = 'p', kind = 'parallelism', features = ['p1', 'p2', 'p3'], tolerance = 9, \
+    material = 'mmc', datums = ['D']}";
 
 // 3 conditions of the datum word, 4,000 of the first four pins, and those of the last.
+const MANY_CONDITIONS: &str = "\
+read 6 1 1 | <93 p5,@,9,0,0; > | PINS; frame = [CIRCULAR]
+34 1 3 | <94 p5,@,9,0,0; > | PINS; frame = [CIRCULAR]
+34 1 3 | <94 p5,@,9,0,0; > | PINS; frame = [CIRCULAR, PARALLEL]
+32 1 3 | <94 p5,@,9,0,0; > | PINS; frame = [PARALLEL, CIRCULAR]";
+
 #[test]
 fn many_conditions(rt: HostRuntime) -> Result<(), Fail> {
-    let cases = [
-        (93, CIRCULAR, "", "read 6 1 1"),
-        (94, CIRCULAR, "", "34 1 3"),
-        (94, CIRCULAR, PARALLEL, "34 1 3"),
-        (94, PARALLEL, CIRCULAR, "32 1 3"),
+    let pieces = [
+        ("PIN_POINTS", PIN_POINTS),
+        ("PINS", PINS),
+        ("CIRCULAR", CIRCULAR),
+        ("PARALLEL", PARALLEL),
     ];
-    for (last, first, second, want) in cases {
-        let points = five_pins(rt.alloc(), last)?;
-        let text = format!(in rt.alloc(); "{PINS}frame = [{first},{second}]\n")?;
-        let got = told(rt.alloc(), points.as_str(), text.as_bytes())?;
-        assert_eq!(rt; got.as_str(), want, "{last} groups, {first}");
-    }
-    Ok(())
+    try_lines(&rt, rt.alloc(), &pieces, "PIN_POINTSCASE", MANY_CONDITIONS)
+}
+
+// Three planes with 999 contact groups each, and 64 axes.
+const PLANE_POINTS: &str = "feature,group,x,y,z
+<1000 p,@,0,0,0\n><1000 q,@,0,0,0\n><1000 r,@,0,0,0\n><64 a@,0,0,0,0\n>";
+
+const PLANES: &str =
+    "datum = [{name = 'P', feature = 'p'}, {name = 'Q', feature = 'q'}, {name = 'R', feature = 'r'}]
+version = 1
+feature = [
+{name = 'p', shape = 'plane', direction = [0, 0, 1], point = [0, 0, 0]},
+{name = 'q', shape = 'plane', direction = [1, 0, 0], point = [0, 0, 0]},
+{name = 'r', shape = 'plane', direction = [0, 1, 0], point = [0, 0, 0]},
+<64 {name = 'a@', shape = 'axis', direction = [0, 0, 1], point = [0, 0, 0]},\n>]
+";
+
+const JOINED: &str = "kind = 'position', tolerance = 9, datums = ['P', 'Q', 'R']";
+
+const EIGHT: &str = "'a0','a1','a2','a3','a4','a5','a6','a7'";
+
+const OTHERS: &str = "\
+    'a8','a9','a10','a11','a12','a13','a14','a15','a16','a17','a18','a19','a20','a21',\
+    'a22','a23','a24','a25','a26','a27','a28','a29','a30','a31','a32','a33','a34','a35',\
+    'a36','a37','a38','a39','a40','a41','a42','a43','a44','a45','a46','a47','a48','a49',\
+    'a50','a51','a52','a53','a54','a55','a56','a57','a58','a59','a60','a61','a62','a63'";
+
+// 3,000 conditions of the datum words, 1,088 of seventeen frames of 64 axes, and those of one more frame: no frame has
+// 4,096 alone.
+const JOINED_CONDITIONS: &str = "\
+read 67 3 18 | EIGHT
+34 18 3 | EIGHT, 'a8'";
+
+#[test]
+fn joined_conditions(rt: HostRuntime) -> Result<(), Fail> {
+    let pieces = [
+        ("PLANE_POINTS", PLANE_POINTS),
+        ("PLANES", PLANES),
+        ("JOINED", JOINED),
+        ("EIGHT", EIGHT),
+        ("OTHERS", OTHERS),
+    ];
+    let shape =
+        "PLANE_POINTS | PLANES; frame = [<17 {name = 'f@', JOINED, features = [EIGHT, OTHERS]},>; \
+        {name = 'last', JOINED, features = [CASE]}]; ";
+    try_lines(&rt, rt.alloc(), &pieces, shape, JOINED_CONDITIONS)
 }
