@@ -45,7 +45,7 @@ type Cells<'a> = slice::Iter<'a, Option<Evidence>>;
 fn push_cell(levels: &mut [Cells], tree: &mut Vec<Node>) {
     let (level, below) = levels.split_first_mut().expect("a level for each cell");
     match level.next().expect("a cell for each half") {
-        &Some(Evidence { farthest: a, nearest: b }) => tree.push(Node::Refuted { condition: 1, a, b }),
+        &Some(Evidence { condition, farthest: a, nearest: b }) => tree.push(Node::Refuted { condition, a, b }),
         None if below.is_empty() => tree.push(Node::Left),
         None => {
             tree.push(Node::Split);
@@ -65,13 +65,10 @@ fn tree_of(levels: &[Level]) -> Vec<Node> {
     tree
 }
 
-impl Certificate {
-    /// The certificate of how a search of a budget ended.
-    pub fn of(outcome: &Outcome, budget: u32) -> Certificate {
-        let body = match outcome {
-            Outcome::Accept { level, cell } => {
-                Body::Accept { root: cell.axis as u32 + 1, at: cell.centre_ratios(*level).to_vec() }
-            }
+impl Body {
+    fn of(outcome: &Outcome) -> Body {
+        match outcome {
+            Outcome::Accept { root, at, .. } => Body::Accept { root: *root, at: at.clone() },
             Outcome::Reject { levels } => Body::Reject { tree: tree_of(levels) },
             Outcome::Open { reason, level, undecided, spent, levels } => Body::Open {
                 level: *level,
@@ -80,10 +77,16 @@ impl Certificate {
                 reason: *reason,
                 tree: tree_of(levels),
             },
-        };
-        Certificate { head: Head::Plain, share: budget, stated: 1, groups: vec![body] }
+        }
     }
+}
 
+impl Certificate {
+    /// The certificate of how some searches ended that had this budget each.
+    pub fn of(outcomes: &[Outcome], share: u32) -> Certificate {
+        let groups = outcomes.iter().map(Body::of).collect();
+        Certificate { head: Head::Plain, share, stated: outcomes.len() as u32, groups }
+    }
     /// The text of a certificate without a probe.
     pub fn text(&self) -> Vec<u8> {
         let mut text = Vec::new();

@@ -90,9 +90,10 @@ pub fn is_above(value: i64, tolerance: u32, length2: i128) -> bool {
     value > 0 && square(value) > square(i64::from(tolerance)) * length2
 }
 
-/// What refutes a cell: two points, by their numbers from 1.
+/// What refutes a cell: a condition and two points of it, by their numbers from 1. Flatness is one condition.
 #[derive(Clone, Copy)]
 pub struct Evidence {
+    pub condition: u32,
     pub farthest: u32,
     pub nearest: u32,
 }
@@ -161,7 +162,7 @@ fn first_evidence_by<const AXIS: usize>(points: &Columns, tolerance: u32, within
     is_above(farthest.0 - nearest.0, tolerance, within.length2()).then(|| {
         let far = (farthest.1..count).find(|&at| span::<AXIS>(within, points, at).0 == farthest.0);
         let near = (nearest.1..count).find(|&at| span::<AXIS>(within, points, at).1 == nearest.0);
-        Evidence { farthest: far.unwrap_or(count) as u32 + 1, nearest: near.unwrap_or(count) as u32 + 1 }
+        Evidence { condition: 1, farthest: far.unwrap_or(count) as u32 + 1, nearest: near.unwrap_or(count) as u32 + 1 }
     })
 }
 
@@ -220,7 +221,7 @@ pub type Level = Vec<Option<Evidence>>;
 
 /// How a search ends. Its levels are kept, as the certificate of a reject or of an open needs them.
 pub enum Outcome {
-    Accept { level: u32, cell: Cell },
+    Accept { level: u32, root: u32, at: Vec<i64> },
     Reject { levels: Vec<Level> },
     Open { reason: Reason, level: u32, undecided: usize, spent: usize, levels: Vec<Level> },
 }
@@ -229,15 +230,32 @@ impl Outcome {
     /// The line that is printed, and the status.
     pub fn answer(&self) -> (String, u8) {
         match self {
-            Outcome::Accept { level, cell } => {
-                let [x, y, z] = cell.centre(*level);
+            Outcome::Accept { level, root, at } => {
+                let [x, y, z] = direction(*root as usize - 1, [at[0], at[1]]);
                 (format!("accept level {level} direction {x} {y} {z}\n"), 0)
             }
-            Outcome::Reject { levels } => (format!("reject leaves {}\n", levels.iter().flatten().flatten().count()), 1),
+            _ => (self.report(), self.status()),
+        }
+    }
+
+    /// What a report says of a group that ended so, on a line.
+    pub fn report(&self) -> String {
+        match self {
+            Outcome::Accept { level, .. } => format!("accept level {level}\n"),
+            Outcome::Reject { levels } => format!("reject leaves {}\n", levels.iter().flatten().flatten().count()),
             Outcome::Open { reason, level, undecided, spent, .. } => {
                 let reason = reason.word();
-                (format!("open {reason} level {level} undecided {undecided} spent {spent}\n"), 2)
+                format!("open {reason} level {level} undecided {undecided} spent {spent}\n")
             }
+        }
+    }
+
+    /// The status of this verdict alone.
+    pub fn status(&self) -> u8 {
+        match self {
+            Outcome::Accept { .. } => 0,
+            Outcome::Reject { .. } => 1,
+            Outcome::Open { .. } => 2,
         }
     }
 }
@@ -251,7 +269,8 @@ pub fn judge(points: &Columns, tolerance: u32, budget: u32) -> Outcome {
         let found: Vec<Found> = cells.iter().map(|cell| bound(points, tolerance, cell, level)).collect();
         let holding = found.iter().position(|it| matches!(it, Found::Undecided { holds: true }));
         if let Some(at) = holding {
-            return Outcome::Accept { level, cell: cells[at] };
+            let cell = cells[at];
+            return Outcome::Accept { level, root: cell.axis as u32 + 1, at: cell.centre_ratios(level).to_vec() };
         }
         let mut kept = Level::with_capacity(cells.len());
         let mut halves = Vec::new();

@@ -1,4 +1,4 @@
-//! `gdteval flat` and `gdteval checkflat` in plain Rust, with the standard library alone: the same words, texts and statuses.
+//! `gdteval flat`, `gdteval checkflat` and the search of `gdteval judge` in plain Rust, with the standard library alone: the same words, texts and statuses.
 //! Of a certificate that is misspelled only the line is that of gdteval, and not which of the codes 40 to 46.
 //! It is written for a fair comparison of time and as a second opinion on each answer. Nothing of it is proved.
 
@@ -6,6 +6,7 @@ mod certificate;
 mod certificate_reader;
 mod check;
 mod flat;
+mod placed;
 mod points;
 
 use certificate::{Certificate, Fault};
@@ -43,11 +44,27 @@ fn table_of(file: &str) -> Result<points::Table, Answer> {
 /// Judges a points file, and stores the certificate where a file is named for it.
 fn judge(file: &str, tolerance: u32, budget: u32, stored: Option<&str>) -> Result<Answer, Answer> {
     let table = table_of(file)?;
-    let outcome = flat::judge(&table.columns(), tolerance, budget);
+    let outcome = [flat::judge(&table.columns(), tolerance, budget)];
     if let Some(stored) = stored {
         fs::write(stored, Certificate::of(&outcome, budget).text()).map_err(|_| (String::new(), 6))?;
     }
-    Ok(outcome.answer())
+    Ok(outcome[0].answer())
+}
+
+/// Judges the groups of a frame file by their conditions, which a file beside it states as numbers.
+fn judge_groups(frames: &str, file: &str, stored: &str, budget: u32) -> Result<Answer, Answer> {
+    let table = table_of(file)?;
+    let groups = placed::groups_of(&format!("{frames}.numbers"), &table);
+    let share = budget / groups.len() as u32;
+    let outcomes: Vec<_> = groups.iter().map(|group| group.judge(share)).collect();
+    fs::write(stored, Certificate::of(&outcomes, share).text()).map_err(|_| (String::new(), 6))?;
+    let has = |status| outcomes.iter().any(|it| it.status() == status);
+    let status = [1, 2].into_iter().find(|&it| has(it)).unwrap_or(0);
+    let line = |(number, (group, outcome)): (u32, (&placed::Group, &flat::Outcome))| {
+        format!("group {number} {} {}", group.label, outcome.report())
+    };
+    let lines: String = (1..).zip(groups.iter().zip(&outcomes)).map(line).collect();
+    Ok((format!("{lines}status {status}\n"), status))
 }
 
 /// Decides a certificate for a points file.
@@ -67,6 +84,9 @@ fn answer(words: &[&str]) -> Answer {
         &["flat", file, tolerance, budget, ref stored @ ..] if stored.len() <= 1 => tolerance_in(tolerance)
             .zip(number(budget, 1, 1_000_000))
             .map(|(tolerance, budget)| judge(file, tolerance, budget, stored.first().copied())),
+        &["judge", frames, file, stored, budget, "text"] => {
+            number(budget, 1, 1_000_000).map(|budget| judge_groups(frames, file, stored, budget))
+        }
         &["checkflat", file, tolerance, stored] => {
             tolerance_in(tolerance).map(|tolerance| check(file, tolerance, stored))
         }

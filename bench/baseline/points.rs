@@ -9,7 +9,6 @@ const MOST_POINTS: usize = 200_000;
 const BYTE_ORDER_MARK: &[u8] = b"\xef\xbb\xbf";
 const HEADER: [&[u8]; 5] = [b"feature", b"group", b"x", b"y", b"z"];
 
-#[expect(dead_code, reason = "flat judges all points by their columns, whatever their feature and group")]
 pub struct Row {
     pub feature: u32,
     pub group: u32,
