@@ -2,7 +2,8 @@
 use Rattle.std.specs.Prelude.{ℕ, ◌≡◌, List, Option, Some, None}
 use Rattle.gd_run.specs.Answers.{Answer}
 use Rattle.gd_run.specs.CheckCommand.{Check, IsCheckJob, IsCheckRange, check_inputs, check_words}
-use Rattle.gd_run.specs.CheckFlatCommand.{CheckFlat, IsCheckFlatJob, IsCheckFlatRange, check_flat_inputs, check_flat_words}
+use Rattle.gd_run.specs.CheckFlatCommand.{CheckFlat, IsCheckFlatJob, IsCheckFlatRange}
+use Rattle.gd_run.specs.CheckFlatCommand.{check_flat_inputs, check_flat_words}
 use Rattle.gd_run.specs.FlatCommand.{Flat, IsFlatJob, IsFlatRange, flat_inputs, flat_words}
 use Rattle.gd_run.specs.Inputs.{Given, Input}
 use Rattle.gd_run.specs.JudgeCommand.{IsJudgeJob, IsJudgeRange, Judge, judge_inputs, judge_words}

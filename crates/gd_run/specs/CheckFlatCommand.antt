@@ -23,11 +23,14 @@ abbrev pub IsCheckFlatRange : CheckFlat → Type 0
 IsCheckFlatRange check = check.tolerance ≤ TOLERANCE
 
 abbrev pub check_flat_inputs : CheckFlat → List Input
-check_flat_inputs check = record { kind = kind.Points; word = check.points } ∷ record { kind = kind.Certificate; word = check.certificate } ∷ []
+check_flat_inputs check =
+    record { kind = kind.Points; word = check.points }
+    ∷ record { kind = kind.Certificate; word = check.certificate } ∷ []
 
 -- the answer for a table and a certificate: whether it is right for the one task, and else its first wrong line
 abbrev pub IsCheckFlatAnswer : CheckFlat → Table → Certificate → Answer → Type 0
 IsCheckFlatAnswer check table c a = a ≡ only_said (said_of_certificate (questions_of table.rows check.tolerance ∷ []) c)
 
 abbrev pub IsCheckFlatJob : CheckFlat → Given → Answer → Type 0
-IsCheckFlatJob check given a = IsSomeAnd given.table (λ table. IsSomeAnd given.certificate (λ c. IsCheckFlatAnswer check table c a))
+IsCheckFlatJob check given a =
+    IsSomeAnd given.table (λ table. IsSomeAnd given.certificate (λ c. IsCheckFlatAnswer check table c a))

@@ -19,7 +19,8 @@ pub record Flat : Type 0 where
 
 -- `flat POINTS T BUDGET` or `flat POINTS T BUDGET CERT`
 abbrev pub flat_words : Flat → List (List ℕ)
-flat_words flat = codes "flat" ∷ flat.points ∷ decimal flat.tolerance ∷ decimal flat.budget ∷ option_to_list flat.certificate
+flat_words flat =
+    codes "flat" ∷ flat.points ∷ decimal flat.tolerance ∷ decimal flat.budget ∷ option_to_list flat.certificate
 
 -- its numbers are in their ranges
 pub record IsFlatRange (flat : Flat) : Type 0 where
@@ -40,7 +41,11 @@ said_of_end (Open tree counts) = opened counts
 abbrev pub IsFlatAnswer : Flat → Table → Answer → Type 0
 IsFlatAnswer flat table a =
     (e : End) × IsVerdict (questions_of table.rows flat.tolerance) flat.budget e
-    × (a ≡ record { stores = stores_to flat.certificate (text (certificate_of_end (questions_of table.rows flat.tolerance) flat.budget e)); said = said_of_end e })
+    × (a ≡ record {
+      stores = stores_to flat.certificate
+          (text (certificate_of_end (questions_of table.rows flat.tolerance) flat.budget e));
+      said = said_of_end e;
+    })
 
 abbrev pub IsFlatJob : Flat → Given → Answer → Type 0
 IsFlatJob flat given a = IsSomeAnd given.table (λ table. IsFlatAnswer flat table a)

@@ -23,20 +23,24 @@ pub record IsGroupReport (words : List (List ℕ)) (files : Files) (printed : Li
   pub frames : HasFrames files input.table judge.frames
   pub verdicts : List Verdict
   pub certificate : Certificate
-  pub so : AreJudgedSo questions_of Meets assignment_of (all_asked frames.file input.table.rows) judge.budget verdicts certificate
+  pub so : AreJudgedSo questions_of Meets assignment_of (all_asked frames.file input.table.rows) judge.budget verdicts
+      certificate
   pub text : printed ≡ (said_of_groups judge.layout (labelled (labels frames.file input.table.rows) verdicts)).text
 
 -- what the groups of a report ask, and their labels
-abbrev pub asked_in : {words : List (List ℕ)} {files : Files} {printed : List ℕ} → IsGroupReport words files printed → List Asked
+abbrev pub asked_in : {words : List (List ℕ)} {files : Files} {printed : List ℕ}
+    → IsGroupReport words files printed → List Asked
 asked_in r = all_asked r.frames.file r.input.table.rows
 
-abbrev pub labels_in : {words : List (List ℕ)} {files : Files} {printed : List ℕ} → IsGroupReport words files printed → List (List ℕ)
+abbrev pub labels_in : {words : List (List ℕ)} {files : Files} {printed : List ℕ}
+    → IsGroupReport words files printed → List (List ℕ)
 labels_in r = labels r.frames.file r.input.table.rows
 
 -- a report of which each group is accepted: its witness in the certificate meets what it asks
 pub record IsJudgedAccept (words : List (List ℕ)) (files : Files) (printed : List ℕ) : Type 0 where
   pub report : IsGroupReport words files printed
-  pub accepted : AreAccepted questions_of Meets assignment_of (asked_in report) report.verdicts report.certificate.groups
+  pub accepted : AreAccepted questions_of Meets assignment_of (asked_in report) report.verdicts
+      report.certificate.groups
 
 -- a report of which some group is rejected: nothing meets what it asks
 pub record IsJudgedReject (words : List (List ℕ)) (files : Files) (printed : List ℕ) : Type 0 where

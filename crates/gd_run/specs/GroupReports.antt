@@ -1,5 +1,5 @@
--- What a run says of the groups of a part: a report of their verdicts with their certificate, or a check of one. A group is
--- known by what it asks: its questions, what meets it, and the assignment of a witness.
+-- What a run says of the groups of a part: a report of their verdicts with their certificate, or a check of one. A
+-- group is known by what it asks: its questions, what meets it, and the assignment of a witness.
 use Rattle.std.specs.Prelude.{ℕ, ◌≡◌, ◌≤◌, ℤ, List, [], ◌∷◌, None, length, map}
 use Rattle.gd_base.specs.Limits.{FILE_BYTES}
 use Rattle.gd_base.specs.declared.verdict.Verdict.{Verdict}
@@ -31,10 +31,11 @@ abbrev pub said_of_groups : Layout → List GroupVerdict → Said
 said_of_groups layout.Text groups = reported groups
 said_of_groups layout.Json groups = reported_as_json groups
 
--- these are the verdicts of the groups, each for its share of a budget, and their certificate. Each verdict means what it
--- says, and the certificate is right and can be read again
-pub record AreJudgedSo {A : Type 0} (questions : A → Questions) (meets : A → List ℤ → Type 0) (assignment : A → Witness → List ℤ)
-    (asked : List A) (budget : ℕ) (verdicts : List Verdict) (certificate : Certificate) : Type 0 where
+-- these are the verdicts of the groups, each for its share of a budget, and their certificate. Each verdict means what
+-- it says, and the certificate is right and can be read again
+pub record AreJudgedSo {A : Type 0} (questions : A → Questions) (meets : A → List ℤ → Type 0)
+    (assignment : A → Witness → List ℤ) (asked : List A) (budget : ℕ) (verdicts : List Verdict)
+    (certificate : Certificate) : Type 0 where
   pub judged : AreOfTasks (map questions asked) budget verdicts certificate
   pub means : AreMeant questions meets assignment asked certificate.share verdicts certificate.groups
   pub right : IsRight (map questions asked) certificate
@@ -42,17 +43,21 @@ pub record AreJudgedSo {A : Type 0} (questions : A → Questions) (meets : A →
   pub short : length (text certificate) ≤ FILE_BYTES
 
 -- an answer that reports such verdicts by the labels of their groups, and stores the certificate under a name
-pub record AreReported {A : Type 0} (questions : A → Questions) (meets : A → List ℤ → Type 0) (assignment : A → Witness → List ℤ)
-    (asked : List A) (labels : List (List ℕ)) (budget : ℕ) (layout : Layout) (name : List ℕ) (a : Answer) : Type 0 where
+pub record AreReported {A : Type 0} (questions : A → Questions) (meets : A → List ℤ → Type 0)
+    (assignment : A → Witness → List ℤ) (asked : List A) (labels : List (List ℕ)) (budget : ℕ)
+    (layout : Layout) (name : List ℕ) (a : Answer) : Type 0 where
   pub verdicts : List Verdict
   pub certificate : Certificate
   pub so : AreJudgedSo questions meets assignment asked budget verdicts certificate
-  pub answer : a ≡ record { stores = (name, text certificate) ∷ []; said = said_of_groups layout (labelled labels verdicts) }
+  pub answer : a ≡ record {
+    stores = (name, text certificate) ∷ [];
+    said = said_of_groups layout (labelled labels verdicts);
+  }
 
--- an answer that tells whether a certificate is right for the groups, and else its first wrong line. What a right one says
--- of each group is so
-pub record IsDecided {A : Type 0} (questions : A → Questions) (meets : A → List ℤ → Type 0) (assignment : A → Witness → List ℤ)
-    (asked : List A) (c : Certificate) (a : Answer) : Type 0 where
+-- an answer that tells whether a certificate is right for the groups, and else its first wrong line. What a right one
+-- says of each group is so
+pub record IsDecided {A : Type 0} (questions : A → Questions) (meets : A → List ℤ → Type 0)
+    (assignment : A → Witness → List ℤ) (asked : List A) (c : Certificate) (a : Answer) : Type 0 where
   pub sound : first_wrong (map questions asked) c ≡ None → IsRight (map questions asked) c
   pub complete : IsRight (map questions asked) c → first_wrong (map questions asked) c ≡ None
   pub means : IsRight (map questions asked) c → AreRight questions meets assignment asked c

@@ -13,9 +13,10 @@ use Rattle.gd_check.specs.Right.{IsAccepted}
 use Rattle.gd_report.specs.Groups.{is_reject}
 use Rattle.gd_verdict.specs.Verdict.{IsVerdict, Open}
 
--- a group is accepted: its witness in the certificate is in range and holds, and the assignment of the witness meets what
--- the group asks
-pub record IsAcceptedBy {A : Type 0} (questions : A → Questions) (meets : A → List ℤ → Type 0) (assignment : A → Witness → List ℤ) (asks : A) (v : Verdict) (b : Body) : Type 0 where
+-- a group is accepted: its witness in the certificate is in range and holds, and the assignment of the witness meets
+-- what the group asks
+pub record IsAcceptedBy {A : Type 0} (questions : A → Questions) (meets : A → List ℤ → Type 0)
+    (assignment : A → Witness → List ℤ) (asks : A) (v : Verdict) (b : Body) : Type 0 where
   pub level : ℕ
   pub root : ℕ
   pub at : List ℤ
@@ -25,7 +26,8 @@ pub record IsAcceptedBy {A : Type 0} (questions : A → Questions) (meets : A �
   pub met : meets asks (assignment asks (witness_of root at))
 
 -- each group is accepted
-abbrev pub AreAccepted : {A : Type 0} → (A → Questions) → (A → List ℤ → Type 0) → (A → Witness → List ℤ) → List A → List Verdict → List Body → Type 0
+abbrev pub AreAccepted : {A : Type 0} → (A → Questions) → (A → List ℤ → Type 0) → (A → Witness → List ℤ) → List A
+    → List Verdict → List Body → Type 0
 AreAccepted questions meets assignment [] vs bs = (vs ≡ []) × (bs ≡ [])
 AreAccepted questions meets assignment (asks ∷ asked) [] bs = ⊥
 AreAccepted questions meets assignment (asks ∷ asked) (v ∷ vs) [] = ⊥
@@ -33,7 +35,8 @@ AreAccepted questions meets assignment (asks ∷ asked) (v ∷ vs) (b ∷ bs) =
     IsAcceptedBy questions meets assignment asks v b × AreAccepted questions meets assignment asked vs bs
 
 -- a group at a place, from 0: what it asks, its label and its verdict
-pub record IsGroupAt {A : Type 0} (asked : List A) (labels : List (List ℕ)) (vs : List Verdict) (asks : A) (v : Verdict) : Type 0 where
+pub record IsGroupAt {A : Type 0} (asked : List A) (labels : List (List ℕ)) (vs : List Verdict) (asks : A)
+    (v : Verdict) : Type 0 where
   pub place : ℕ
   pub label : List ℕ
   pub found : slice_get asked place ≡ Some asks
@@ -41,14 +44,16 @@ pub record IsGroupAt {A : Type 0} (asked : List A) (labels : List (List ℕ)) (v
   pub told : slice_get vs place ≡ Some v
 
 -- some group is rejected, and no assignment meets what it asks
-pub record SomeRejected {A : Type 0} (meets : A → List ℤ → Type 0) (asked : List A) (labels : List (List ℕ)) (vs : List Verdict) : Type 0 where
+pub record SomeRejected {A : Type 0} (meets : A → List ℤ → Type 0) (asked : List A) (labels : List (List ℕ))
+    (vs : List Verdict) : Type 0 where
   pub asks : A
   pub leaves : ℕ
   pub group : IsGroupAt asked labels vs asks (verdict.Reject leaves)
   pub none : (a : List ℤ) → meets asks a → ⊥
 
 -- no group is rejected, and some group is open: that is its verdict for its share of the budget
-pub record SomeOpen {A : Type 0} (questions : A → Questions) (asked : List A) (labels : List (List ℕ)) (share : ℕ) (vs : List Verdict) : Type 0 where
+pub record SomeOpen {A : Type 0} (questions : A → Questions) (asked : List A) (labels : List (List ℕ)) (share : ℕ)
+    (vs : List Verdict) : Type 0 where
   pub asks : A
   pub lines : List Node
   pub counts : Counts

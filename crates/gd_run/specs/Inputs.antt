@@ -1,5 +1,6 @@
 -- The inputs of a command: the files that it reads, in order, and what they are read as.
-use Rattle.std.specs.Prelude.{ℕ, ◌≡◌, ◌⊎◌, Bool, true, false, List, [], ◌∷◌, Option, Some, None, Result, Ok, Err, cond, length, nat_lt, is_some, option_and_then, IsOkAnd, IsSomeAnd}
+use Rattle.std.specs.Prelude.{ℕ, ◌≡◌, ◌⊎◌, Bool, true, false, List, [], ◌∷◌, Option, Some, None, Result, Ok, Err, cond}
+use Rattle.std.specs.Prelude.{length, nat_lt, is_some, option_and_then, IsOkAnd, IsSomeAnd}
 use Rattle.gd_base.specs.Limits.{FILE_BYTES}
 use Rattle.gd_base.specs.declared.fault.InputFault.{InputFault}
 use Rattle.gd_cert.specs.Certificates.{Certificate}
@@ -90,13 +91,15 @@ and_reads (Err said) next = Some (Err said)
 -- what the inputs are read as, in order, or what is said of the first that is refused; none where a file isn't held
 abbrev pub reads : Given → List Input → Files → Option (Result Given Said)
 reads g [] files = Some (Ok g)
-reads g (i ∷ is) files = option_and_then (λ bytes. and_reads (with_bytes i.kind g i.word bytes) (λ h. reads h is files)) (files i.word)
+reads g (i ∷ is) files =
+    option_and_then (λ bytes. and_reads (with_bytes i.kind g i.word bytes) (λ h. reads h is files)) (files i.word)
 
 -- the word of an input whose turn it is: those before it were read
 abbrev pub IsTurn : Given → List Input → Files → List ℕ → Type 0
 IsTurn g [] files word = ⊥
 IsTurn g (i ∷ is) files word =
-    (word ≡ i.word) ⊎ IsSomeAnd (files i.word) (λ bytes. IsOkAnd (with_bytes i.kind g i.word bytes) (λ h. IsTurn h is files word))
+    (word ≡ i.word)
+    ⊎ IsSomeAnd (files i.word) (λ bytes. IsOkAnd (with_bytes i.kind g i.word bytes) (λ h. IsTurn h is files word))
 
 -- the word of an input
 abbrev pub IsWordOf : List Input → List ℕ → Type 0

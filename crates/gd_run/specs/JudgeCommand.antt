@@ -26,7 +26,8 @@ layout_word layout.Json = codes "json"
 -- `judge FRAMES POINTS CERT BUDGET text` or `json`
 abbrev pub judge_words : Judge → List (List ℕ)
 judge_words judge =
-    codes "judge" ∷ judge.frames ∷ judge.points ∷ judge.certificate ∷ decimal judge.budget ∷ layout_word judge.layout ∷ []
+    codes "judge" ∷ judge.frames ∷ judge.points ∷ judge.certificate ∷ decimal judge.budget
+    ∷ layout_word judge.layout ∷ []
 
 -- its number is in its range
 pub record IsJudgeRange (judge : Judge) : Type 0 where
@@ -38,11 +39,12 @@ abbrev pub judge_inputs : Judge → List Input
 judge_inputs judge =
     record { kind = kind.Points; word = judge.points } ∷ record { kind = kind.Frames; word = judge.frames } ∷ []
 
--- the answer for a table and a frame file: the verdicts of all groups, each for its share of the budget, as a report, and
--- their certificate is stored
+-- the answer for a table and a frame file: the verdicts of all groups, each for its share of the budget, as a report,
+-- and their certificate is stored
 abbrev pub IsJudgeAnswer : Judge → Table → File → Answer → Type 0
 IsJudgeAnswer judge table file a = AreReported questions_of Meets assignment_of (all_asked file table.rows)
     (labels file table.rows) judge.budget judge.layout judge.certificate a
 
 abbrev pub IsJudgeJob : Judge → Given → Answer → Type 0
-IsJudgeJob judge given a = IsSomeAnd given.table (λ table. IsSomeAnd given.frames (λ file. IsJudgeAnswer judge table file a))
+IsJudgeJob judge given a =
+    IsSomeAnd given.table (λ table. IsSomeAnd given.frames (λ file. IsJudgeAnswer judge table file a))

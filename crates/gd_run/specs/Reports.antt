@@ -1,6 +1,6 @@
 -- A report, or why there is none.
-use Rattle.std.specs.Prelude.{ℕ, ◌≡◌, ◌≤◌, ◌<◌, ◌++◌, ◌⊎◌, Bool, true, List, Option, Some, None, Result, Ok, Err, IfSome, IsSomeAnd, length}
-use Rattle.std.specs.Prelude.{take}
+use Rattle.std.specs.Prelude.{ℕ, ◌≡◌, ◌≤◌, ◌<◌, ◌++◌, ◌⊎◌, Bool, true, List, Option, Some, None, Result, Ok, Err}
+use Rattle.std.specs.Prelude.{IfSome, IsSomeAnd, length, take}
 use Rattle.std.specs.Option.{option_len}
 use Rattle.std.specs.String.{string_bytes}
 use Rattle.gd_base.specs.Causes.{Rose}

@@ -17,11 +17,12 @@ abbrev pub IsAnswerTo : Ask → Files → Answer → Type 0
 IsAnswerTo ask files a = IsSomeAnd (reads nothing_given (inputs_of ask) files) (λ read. IsAnswerFrom ask read a)
 
 abbrev pub IsAnswer : List (List ℕ) → Files → Answer → Type 0
-IsAnswer words files a = (IsNoCommand words × (a ≡ only_said wrong_words)) ⊎ ((ask : Ask) × Asks words ask × IsAnswerTo ask files a)
+IsAnswer words files a =
+    (IsNoCommand words × (a ≡ only_said wrong_words)) ⊎ ((ask : Ask) × Asks words ask × IsAnswerTo ask files a)
 
 -- ---- whatever the files hold
--- an answer to what was asked: a verdict, a check or a refusal. It stores under the word of the command alone, and nothing with a
--- refusal or an invalid certificate
+-- an answer to what was asked: a verdict, a check or a refusal. It stores under the word of the command alone, and
+-- nothing with a refusal or an invalid certificate
 pub record IsAnswerOf (ask : Ask) (a : Answer) : Type 0 where
   pub ending : (status_of a.said.ending ≤ 3) ⊎ (status_of a.said.ending ≡ 8)
   pub named : All (λ (s : Store). store_of ask ≡ Some s.0) a.stores
@@ -29,7 +30,8 @@ pub record IsAnswerOf (ask : Ask) (a : Answer) : Type 0 where
 
 -- an answer that the words allow
 abbrev pub IsPossible : List (List ℕ) → Answer → Type 0
-IsPossible words a = (IsNoCommand words × (a ≡ only_said wrong_words)) ⊎ ((ask : Ask) × Asks words ask × IsAnswerOf ask a)
+IsPossible words a =
+    (IsNoCommand words × (a ≡ only_said wrong_words)) ⊎ ((ask : Ask) × Asks words ask × IsAnswerOf ask a)
 
 -- the word of a file that the words ask to read
 pub record IsToRead (words : List (List ℕ)) (word : List ℕ) : Type 0 where

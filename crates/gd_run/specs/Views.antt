@@ -23,7 +23,12 @@ use Rattle.gd_run.specs.declared.report.Report.{Report}
 use Rattle.gd_tables.specs.Kinds.{file_of}
 
 abbrev pub flat_of : FlatCommand → Flat
-flat_of c = record { points = c.points.now; tolerance = c.tolerance; budget = c.budget; certificate = option_map (λ w. w.now) c.certificate }
+flat_of c = record {
+  points = c.points.now;
+  tolerance = c.tolerance;
+  budget = c.budget;
+  certificate = option_map (λ w. w.now) c.certificate;
+}
 
 abbrev pub check_flat_of : CheckFlatCommand → CheckFlat
 check_flat_of c = record { points = c.points.now; tolerance = c.tolerance; certificate = c.certificate.now }
@@ -50,7 +55,11 @@ abbrev pub input_of : Input → meant.Input
 input_of i = record { kind = i.kind; word = i.word.now }
 
 abbrev pub given_of : Inputs → Given
-given_of i = record { table = i.table; frames = option_map file_of i.frames; certificate = option_map certificate_of i.certificate }
+given_of i = record {
+  table = i.table;
+  frames = option_map file_of i.frames;
+  certificate = option_map certificate_of i.certificate;
+}
 
 abbrev pub stores_in : Option NamedFile → List Store
 stores_in None = []

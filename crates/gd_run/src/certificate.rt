@@ -45,7 +45,8 @@ pub fn certificate_text<T: Task>(
     outcome: Outcome,
     budget: u32,
 ) -> Result<Vec<u8>, Memory>
-    ensures { IfOk result (λ bytes. bytes.items ≡ text (certificate_of_end (T.questions task.now) budget (end_of outcome))) }
+    ensures { IfOk result (λ bytes. bytes.items
+        ≡ text (certificate_of_end (T.questions task.now) budget (end_of outcome))) }
 {
     let cert = cert_of_outcome(alloc, task, outcome, budget)?;
     write_cert(alloc, &cert)

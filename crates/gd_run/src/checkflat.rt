@@ -5,7 +5,8 @@ ghost use Rattle.gd_cert.specs.Bounds.{IsInBounds};
 ghost use Rattle.gd_cert.specs.Certificates.{certificate_of};
 ghost use Rattle.gd_cert.specs.Text.{KeepsLines, text};
 ghost use Rattle.gd_run.specs.Asks.{IsSpelled};
-ghost use Rattle.gd_run.specs.CheckFlatCommand.{IsCheckFlatAnswer, IsCheckFlatRange, check_flat_inputs, check_flat_words};
+ghost use Rattle.gd_run.specs.CheckFlatCommand.{IsCheckFlatAnswer, IsCheckFlatRange};
+ghost use Rattle.gd_run.specs.CheckFlatCommand.{check_flat_inputs, check_flat_words};
 
 use crate::decision::decide;
 use crate::inputs::{Input, InputKind};
@@ -38,7 +39,8 @@ impl<'a> CheckFlatCommand<'a> {
         tolerance: &str,
         certificate: &'a str,
     ) -> Option<CheckFlatCommand<'a>>
-        ensures { IsSpelled check_flat_words IsCheckFlatRange (codes "checkflat" ∷ points.now ∷ tolerance.now ∷ certificate.now ∷ []) (option_map check_flat_of result) }
+        ensures { IsSpelled check_flat_words IsCheckFlatRange
+            (codes "checkflat" ∷ points.now ∷ tolerance.now ∷ certificate.now ∷ []) (option_map check_flat_of result) }
     {
         let tolerance = plain_number(tolerance.as_bytes(), u64::from(TOLERANCE))?;
         Some(CheckFlatCommand {
@@ -75,7 +77,8 @@ impl<'a> CheckFlatCommand<'a> {
         requires bounds { IsInBounds (certificate_of cert.now) }
         requires lines { KeepsLines cert.now }
         requires short { length (text (certificate_of cert.now)) ≤ FILE_BYTES }
-        ensures { IfOk result (λ r. IsCheckFlatAnswer (check_flat_of self.now) table.now (certificate_of cert.now) (answer_in r)) }
+        ensures { IfOk result
+            (λ r. IsCheckFlatAnswer (check_flat_of self.now) table.now (certificate_of cert.now) (answer_in r)) }
     {
         let task = flat_task(table, self.tolerance);
         let line = decide(alloc, &[task], cert)?;

@@ -153,7 +153,8 @@ impl<'a> Command<'a> {
         inputs: &Inputs,
     ) -> Result<Report<'a>, Memory>
         requires sound { IsSound inputs.now }
-        requires there { kinds_of (given_of inputs.now) ≡ kinds_after (kinds_of nothing_given) (inputs_of (ask_of self.now)) }
+        requires there { kinds_of (given_of inputs.now)
+            ≡ kinds_after (kinds_of nothing_given) (inputs_of (ask_of self.now)) }
         ensures { IfOk result (λ r. IsJob (ask_of self.now) (given_of inputs.now) (answer_in r)) }
     {
         match self {

@@ -25,13 +25,14 @@ fn answer_line(alloc: Global, answer: CheckAnswer) -> Result<Line, Memory>
     }
 }
 
-/// What is said of a certificate of these tasks: that it is valid, or its first wrong line. The head of a probe is refused
-/// at its second line.
+/// What is said of a certificate of these tasks: that it is valid, or its first wrong line. The head of a probe is
+/// refused at its second line.
 pub fn decide<T: Task>(alloc: Global, tasks: &[T], cert: &Cert) -> Result<Line, Memory>
     requires bounds { IsInBounds (certificate_of cert.now) }
     requires lines { KeepsLines cert.now }
     requires short { length (text (certificate_of cert.now)) ≤ FILE_BYTES }
-    ensures { IfOk result (λ line. said_in line ≡ said_of_certificate (map T.questions tasks.now) (certificate_of cert.now)) }
+    ensures { IfOk result (λ line. said_in line
+        ≡ said_of_certificate (map T.questions tasks.now) (certificate_of cert.now)) }
 {
     match cert.head {
         Head::Plain => {

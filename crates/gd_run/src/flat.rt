@@ -50,7 +50,8 @@ impl<'a> FlatCommand<'a> {
         budget: &str,
         certificate: Option<&'a str>,
     ) -> Option<FlatCommand<'a>>
-        ensures { IsSpelled flat_words IsFlatRange (codes "flat" ∷ points.now ∷ tolerance.now ∷ budget.now ∷ option_to_list (option_map (λ w. w.now) certificate.entry)) (option_map flat_of result) }
+        ensures { IsSpelled flat_words IsFlatRange (codes "flat" ∷ points.now ∷ tolerance.now ∷ budget.now
+            ∷ option_to_list (option_map (λ w. w.now) certificate.entry)) (option_map flat_of result) }
     {
         let tolerance = plain_number(tolerance.as_bytes(), u64::from(TOLERANCE))?;
         let budget = plain_number(budget.as_bytes(), u64::from(BUDGET))?;

@@ -46,7 +46,9 @@ impl<'a> JudgeCommand<'a> {
         budget: &str,
         layout: &str,
     ) -> Option<JudgeCommand<'a>>
-        ensures { IsSpelled judge_words IsJudgeRange (codes "judge" ∷ frames.now ∷ points.now ∷ certificate.now ∷ budget.now ∷ layout.now ∷ []) (option_map judge_of result) }
+        ensures { IsSpelled judge_words IsJudgeRange
+            (codes "judge" ∷ frames.now ∷ points.now ∷ certificate.now ∷ budget.now ∷ layout.now ∷ [])
+            (option_map judge_of result) }
     {
         let budget = plain_number(budget.as_bytes(), u64::from(BUDGET))?;
         if budget == 0 {

@@ -40,8 +40,8 @@ fn labelled(
     Ok(groups)
 }
 
-/// The verdicts of some tasks by their labels, as a report in a layout, and their certificate, to be stored under a name.
-/// Each task has the same share of the budget.
+/// The verdicts of some tasks by their labels, as a report in a layout, and their certificate, to be stored under a
+/// name. Each task has the same share of the budget.
 pub fn judged_report<'a, R: Threads + Sync, T: Task>(
     rt: &R,
     alloc: Global,
@@ -56,8 +56,8 @@ pub fn judged_report<'a, R: Threads + Sync, T: Task>(
     requires numbers { All (λ t. HasNumbers (T.questions t)) tasks.now }
     requires labels { length labels.now ≡ length tasks.now }
     requires budget { budget ≤ BUDGET }
-    ensures { IfOk result (λ r. AreReported T.questions T.feasible T.assignment tasks.now labels.now budget layout name.now
-        (answer_in r)) }
+    ensures { IfOk result (λ r. AreReported T.questions T.feasible T.assignment tasks.now labels.now budget layout
+        name.now (answer_in r)) }
 {
     let judged = judge_tasks(rt, alloc, tasks, budget)?;
     let groups = labelled(alloc, labels, &judged.verdicts)?;

@@ -9,8 +9,8 @@ ghost use Rattle.gd_report.specs.Texts.{cannot_read_text, wrong_words_text};
 ghost use Rattle.gd_report.specs.declared.ending.Ending.TheVariants as ending;
 ghost use Rattle.gd_run.specs.Asks.{IsNoCommand, inputs_of};
 ghost use Rattle.gd_run.specs.Claims.{LeavesValid, StoresValid};
-ghost use Rattle.gd_run.specs.Endings.{Answers, CallsFew, Ends, EndsInEight, EndsInOne, EndsInTwo, EndsInZero, FailedToRead};
-ghost use Rattle.gd_run.specs.Endings.{ReadsFew, StoresDone};
+ghost use Rattle.gd_run.specs.Endings.{Answers, CallsFew, Ends, EndsInEight, EndsInOne, EndsInTwo, EndsInZero};
+ghost use Rattle.gd_run.specs.Endings.{FailedToRead, ReadsFew, StoresDone};
 ghost use Rattle.gd_run.specs.Inputs.{IsTurn, IsWordOf, nothing_given};
 ghost use Rattle.gd_run.specs.Reports.{HasReport, IsPlain, IsUnreadAnd, OnReport, PutFails, StoreFails, stores_wanted};
 ghost use Rattle.gd_run.specs.Runs.{IsAnswer, IsAnswerOf, IsAnswerTo, IsNext, IsPossible, IsToRead};
@@ -259,13 +259,13 @@ pub fn run<R: Threads + Sync, S: Shelf, O: Sink>(
         (O.written out.new) result.0 }
 
     // With 0 it printed an accept, with a direction along which no two points are further apart than the tolerance; or
-    // that each group is accepted, and the witness of each in the certificate meets what the group asks; or `valid` for a
-    // certificate that is right.
+    // that each group is accepted, and the witness of each in the certificate meets what the group asks; or `valid` for
+    // a certificate that is right.
     ensures zero { S.tells ≡ true → O.tells ≡ true → result.0 ≡ 0
         → EndsInZero (map string_bytes words.now.items) (S.holds shelf.old) (O.written out.old) (O.written out.new) }
 
-    // With 1 it printed a reject: along no direction are all points within the tolerance; or some group is rejected, and
-    // nothing meets what it asks.
+    // With 1 it printed a reject: along no direction are all points within the tolerance; or some group is rejected,
+    // and nothing meets what it asks.
     ensures reject { S.tells ≡ true → O.tells ≡ true → result.0 ≡ 1
         → EndsInOne (map string_bytes words.now.items) (S.holds shelf.old) (O.written out.old) (O.written out.new) }
 

@@ -1,9 +1,11 @@
 // The one place where a run loads files and reads them.
-ghost use Rattle.std.specs.Prelude.{◌≡◌, ◌≤◌, ◌<◌, ◌+◌, true, false, Ok, Err, Some, IfOk, IsOkAnd, is_some, length, map};
+ghost use Rattle.std.specs.Prelude.{◌≡◌, ◌≤◌, ◌+◌, true, false, Ok, Err, Some, IfOk, IsOkAnd, is_some, length, map};
 ghost use Rattle.gd_base.specs.Causes.{Rose};
 ghost use Rattle.gd_base.specs.Limits.{FILE_BYTES};
 ghost use Rattle.gd_report.specs.Said.{invalid, said_in};
-ghost use Rattle.gd_run.specs.Inputs.{AreInOrder, IsPlaced, IsRefusal, IsTurn, IsWordOf, Reads, certificate_file, frames_beside, kinds_after, kinds_of, nothing_given, points_file, reads, said_of_long, with_bytes, with_certificate, with_kind, with_points};
+ghost use Rattle.gd_run.specs.Inputs.{AreInOrder, IsPlaced, IsRefusal, IsTurn, IsWordOf, Reads, certificate_file};
+ghost use Rattle.gd_run.specs.Inputs.{frames_beside, kinds_after, kinds_of, nothing_given, points_file, reads};
+ghost use Rattle.gd_run.specs.Inputs.{said_of_long, with_bytes, with_certificate, with_kind, with_points};
 ghost use Rattle.gd_run.specs.Reports.{IsSound, OnInputs};
 ghost use Rattle.gd_run.specs.Views.{given_of, input_of};
 ghost use Rattle.gd_world.specs.Shelf.{IsWord, SameFiles};
@@ -113,7 +115,8 @@ fn read_bytes<'a>(
     requires short { length bytes.now ≤ FILE_BYTES }
     requires sound { IsSound inputs }
     requires placed { IsPlaced input.now.kind (kinds_of (given_of inputs)) }
-    ensures read { OnInputs (λ i. with_bytes input.now.kind (given_of inputs) input.now.word.now bytes.now ≡ Ok (given_of i))
+    ensures read { OnInputs
+        (λ i. with_bytes input.now.kind (given_of inputs) input.now.word.now bytes.now ≡ Ok (given_of i))
         (λ said. with_bytes input.now.kind (given_of inputs) input.now.word.now bytes.now ≡ Err said) (λ w. ⊥) result }
     ensures sound { OnInputs IsSound (λ said. Unit {0}) (λ w. Unit {0}) result }
 {
@@ -178,7 +181,8 @@ pub fn read_inputs<'a, S: Shelf>(
         (λ i. reads nothing_given (map input_of inputs.now) (S.holds shelf.old) ≡ Some (Ok (given_of i)))
         (λ said. reads nothing_given (map input_of inputs.now) (S.holds shelf.old) ≡ Some (Err said))
         (λ w. IsTurn nothing_given (map input_of inputs.now) (S.holds shelf.old) w) result }
-    ensures kind { OnInputs (λ i. kinds_of (given_of i) ≡ kinds_after (kinds_of nothing_given) (map input_of inputs.now))
+    ensures kind { OnInputs
+        (λ i. kinds_of (given_of i) ≡ kinds_after (kinds_of nothing_given) (map input_of inputs.now))
         IsRefusal (λ w. IsWordOf (map input_of inputs.now) w) result }
     ensures unread { OnInputs (λ i. Unit {0}) (λ said. Unit {0})
         (λ w. Rose (S.faults shelf.old) (S.faults shelf.new) × IsWord (S.failed shelf.new) w false) result }
