@@ -8,6 +8,8 @@ mod frame_cases;
 #[cfg(test)]
 mod frame_files;
 #[cfg(test)]
+mod frame_runs;
+#[cfg(test)]
 mod frame_tables;
 #[cfg(test)]
 mod runs;

@@ -10,16 +10,17 @@ use std::thread::Threads;
 const SADDLE: &str =
     "feature,group,x,y,z\ns,0,0,0,0\ns,0,1000,0,0\ns,0,0,1000,0\ns,0,1000,1000,10\n";
 
-const CORNER: &str = "feature,group,x,y,z\na,0,0,0,0\na,0,1000,0,0\na,0,0,1000,0\na,0,0,0,1000\n";
+pub(crate) const CORNER: &str =
+    "feature,group,x,y,z\na,0,0,0,0\na,0,1000,0,0\na,0,0,1000,0\na,0,0,0,1000\n";
 
-const CERTIFICATE: &str =
+pub(crate) const CERTIFICATE: &str =
     "gdcert 1\nplain\nshare 5\ngroups 1\ngroup 1 reject\nr 1 2 1\nr 1 3 1\nr 1 4 1\nend\n";
 
-// What a run leaves: its status, what the sink holds, and what `c` and `p.csv` hold.
-type Left<'a> = (u8, &'a [u8], &'a [u8], &'a [u8]);
+/// What a run leaves: its status, what the sink holds, and what `c` and `p.csv` hold.
+pub(crate) type Left<'a> = (u8, &'a [u8], &'a [u8], &'a [u8]);
 
-// A part of four points, or of the corner of a cube, under `p.csv`, and what `c` holds where there is something.
-fn shelf_of(alloc: Global, points: &str, certificate: &str) -> Result<MemShelf, Memory> {
+/// A part of four points, or of the corner of a cube, under `p.csv`, and what `c` holds where there is something.
+pub(crate) fn shelf_of(alloc: Global, points: &str, certificate: &str) -> Result<MemShelf, Memory> {
     let mut shelf = MemShelf::new(alloc);
     let bytes = Vec::from_slice(alloc, points.as_bytes())?;
     shelf.add(Name2::of(alloc, "p.csv")?, bytes)?;
@@ -49,9 +50,9 @@ fn words_of(alloc: Global, line: &str) -> Result<Vec<String>, Memory> {
     Ok(words)
 }
 
-// Tries the words of a line. The call of the shelf of the first number fails and then leaves so many bytes, as does the
-// put of the last number; 0 fails none.
-fn try_run<R: Abort + Threads + Sync>(
+/// Tries the words of a line. The call of the shelf of the first number fails and then leaves so many bytes, as does the
+/// put of the last number; 0 fails none.
+pub(crate) fn try_run<R: Abort + Threads + Sync>(
     rt: &R,
     alloc: Global,
     mut shelf: MemShelf,
