@@ -1,6 +1,9 @@
--- All points of a condition against one, by their extremes.
-use Rattle.std.proofs.Common.{◌≡◌, sym, subst, ap, ℕ, zero, suc, ◌-◌, ◌<◌, ◌≤◌, Bool, true, false, ◌&&◌, ◌==◌, List, length, get_or, Option, Some, None, arith}
+-- All points of a condition against a bound, and against one point.
+use Rattle.std.proofs.Common.{◌≡◌, ◌∙◌, sym, subst, ap, ℕ, zero, suc, ◌-◌, ◌<◌, ◌≤◌, Bool, true, false, ◌&&◌, ◌==◌, List, length, map, get_or, Option, Some, None, arith}
 use Rattle.std.proofs.lemmas.Bool.{false≢true}
+use Rattle.std.proofs.lemmas.List.{get_or-map, length-map}
+use Rattle.std.proofs.lemmas.List.Folds.{list_all_at}
+use Rattle.std.proofs.lemmas.List.Sums.{list_all-from_AllPass}
 use Rattle.std.proofs.lemmas.Option.{slice_get_within}
 use Rattle.std.specs.List.{list_all}
 use Rattle.std.specs.Option.{IfSome}
@@ -8,7 +11,7 @@ use Rattle.std.specs.Prelude.{ℤ, slice_get}
 use Rattle.gd_bound.specs.Evidence.{named_row, names, passes_by_more, refutes_by}
 use Rattle.gd_points.specs.declared.table.Row.{Row}
 use Rattle.gd_quat.specs.Formulas.{Ends}
-use Rattle.gd_zone.proofs.Pairs.{all-is, more-above, more-falls, z-refl}
+use Rattle.gd_zone.proofs.Pairs.{all-is, more-falls, z-refl}
 use Rattle.gd_zone.specs.Conditions.{belongs, is_of_feature, length2_of}
 use Rattle.gd_zone.specs.Extremes.{AreExtremes, at_narrowest}
 use Rattle.gd_zone.specs.Refutations.{is_more}
@@ -17,12 +20,19 @@ use Rattle.gd_zone.specs.declared.condition.Demand.{Demand}
 use Rattle.gd_zone.specs.declared.condition.Demand.TheVariants.{Contact, HugInner, HugOuter, Spread}
 use Rattle.gd_zone.specs.declared.condition.Surface.{Surface}
 
-pub above-all : (s : Surface) (hi : ℤ) (vs : List Ends) (least greatest : Ends) → AreExtremes vs least greatest → is_more least.lo hi (length2_of s) ≡ list_all (λ v. is_more v.lo hi (length2_of s)) vs
-above-all s hi vs least greatest e =
-    let r = e.least_lo.reached in
-    sym (all-is (λ (v : Ends). is_more v.lo hi (length2_of s)) vs (is_more least.lo hi (length2_of s)) (λ k d l. more-above least.lo (get_or vs k d).lo hi (length2_of s) (e.least_lo.below k d l))
-    (r.0, r.1, r.2, r.3, ap (λ z. is_more z hi (length2_of s)) r.4))
+-- ---- points one by one
+pub above-all : (hi n : ℤ) (f : ℕ → Ends) (ns : List ℕ) → ((j : ℕ) → j < length ns → is_more (f (get_or ns j 0)).lo hi n ≡ true) → true ≡ list_all (λ v. is_more v.lo hi n) (map f ns)
+above-all hi n f ns h =
+    sym (list_all-from_AllPass (λ (v : Ends). is_more v.lo hi n) (map f ns) (λ k d l.
+    let m : k < length ns = omega (arith, l, length-map ns f) in
+    subst (λ (v : Ends). is_more v.lo hi n ≡ true) (sym (get_or-map f ns k 0 d m)) (h k m)))
 
+pub above-not : (hi n : ℤ) (f : ℕ → Ends) (ns : List ℕ) (j : ℕ) → j < length ns → is_more (f (get_or ns j 0)).lo hi n ≡ false → false ≡ list_all (λ v. is_more v.lo hi n) (map f ns)
+above-not hi n f ns j l h =
+    sym (list_all_at (λ (v : Ends). is_more v.lo hi n) (map f ns) j (f (get_or ns j 0)) (omega (arith, l, length-map ns f))
+    (ap (λ (v : Ends). is_more v.lo hi n) (get_or-map f ns j 0 (f (get_or ns j 0)) l) ∙ h))
+
+-- ---- by their extremes
 pub all-pass : (s : Surface) (t : ℤ) (b : Ends) (vs : List Ends) (least greatest : Ends) → AreExtremes vs least greatest → passes_by_more s t least b ≡ list_all (λ v. passes_by_more s t v b) vs
 all-pass s t b vs least greatest e =
     let r = e.least_lo.reached in

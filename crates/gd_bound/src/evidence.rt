@@ -154,7 +154,19 @@ fn apart_at(view: &View<'_>, t: i64, a: u32, b: u32) -> bool
     )
 }
 
-/// Whether all points of the condition lie above a bound.
+// Whether a value along a direction lies above a bound at every placement of the box.
+#[inline]
+fn lies_above(surface: &Surface, hi: i64, value: Iv) -> bool
+    requires surface { IsSurface surface.now }
+    requires hi { IsBound hi }
+    requires pair { IsPair surface.now (Contact hi) }
+    requires value { IsSized surface.now value }
+    ensures { result ≡ is_more value.lo hi (length2_of surface.now) }
+{
+    !is_at_most(value.lo, hi, length2(surface))
+}
+
+/// Whether all points of the condition lie above a bound. The first that doesn't ends the loop.
 pub fn all_above(view: &View<'_>, hi: i64) -> bool
     requires condition { IsCondition view.now.subject.now.condition }
     requires hi { IsBound hi }
@@ -162,10 +174,14 @@ pub fn all_above(view: &View<'_>, hi: i64) -> bool
     ensures { result ≡ list_all (λ v. is_more v.lo hi (length2_of view.now.subject.now.condition.surface))
         (map (value_in view.now) (points_in view.now)) }
 {
-    match extremes_of(view, view.subject.points()) {
-        None => true,
-        Some(x) => !is_at_most(x.least.lo, hi, length2(&view.subject.condition.surface)),
+    let group = view.subject.points();
+    for at in 0..group.len() {
+        let value = view.value(group[at]);
+        if !lies_above(&view.subject.condition.surface, hi, value) {
+            return false;
+        }
     }
+    true
 }
 
 /// Whether all points of the condition pass a value by more than `slack`.

@@ -12,6 +12,7 @@ use gd_interval::Iv;
 use gd_zone::{Surface, is_at_least, is_at_most, length2, square_bound};
 
 // Whether a value is above a bound, where there is one.
+#[inline(always)]
 fn is_above(s: i128, hi: Option<i64>, n2: i128) -> bool
     requires s { unsigned_abs s ≤ 2 ^ 60 }
     requires hi { IfSome hi IsBound }
@@ -26,6 +27,7 @@ fn is_above(s: i128, hi: Option<i64>, n2: i128) -> bool
 }
 
 // Whether a value is below a bound, where there is one.
+#[inline(always)]
 fn is_below(s: i128, lo: Option<i64>, n2: i128) -> bool
     requires s { unsigned_abs s ≤ 2 ^ 60 }
     requires lo { IfSome lo IsBound }
@@ -40,6 +42,7 @@ fn is_below(s: i128, lo: Option<i64>, n2: i128) -> bool
 }
 
 // Whether a distance is above a bound, where there is one: the squares are compared.
+#[inline(always)]
 fn is_far(c: i128, hi: Option<i64>, n2: i128) -> bool
     requires hi { IfSome hi IsBound }
     requires n2 { unsigned_abs n2 ≤ 2 ^ 22 }
@@ -52,6 +55,7 @@ fn is_far(c: i128, hi: Option<i64>, n2: i128) -> bool
 }
 
 // Whether a distance is below a bound, where there is one: the squares are compared.
+#[inline(always)]
 fn is_near(c: i128, lo: Option<i64>, n2: i128) -> bool
     requires lo { IfSome lo IsBound }
     requires n2 { unsigned_abs n2 ≤ 2 ^ 22 }
@@ -64,6 +68,7 @@ fn is_near(c: i128, lo: Option<i64>, n2: i128) -> bool
 }
 
 // Whether a value along a direction lies outside two bounds.
+#[inline(always)]
 fn is_plane_outside(lo: Option<i64>, hi: Option<i64>, n2: i128, value: Iv) -> bool
     requires lo { IfSome lo IsBound }
     requires hi { IfSome hi IsBound }
@@ -77,6 +82,7 @@ fn is_plane_outside(lo: Option<i64>, hi: Option<i64>, n2: i128, value: Iv) -> bo
 }
 
 // Whether a distance lies outside two bounds.
+#[inline(always)]
 fn is_distance_outside(lo: Option<i64>, hi: Option<i64>, n2: i128, value: Iv) -> bool
     requires lo { IfSome lo IsBound }
     requires hi { IfSome hi IsBound }
@@ -87,6 +93,7 @@ fn is_distance_outside(lo: Option<i64>, hi: Option<i64>, n2: i128, value: Iv) ->
 }
 
 /// Whether a value lies outside two bounds, in half units, at every placement of the box.
+#[inline(always)]
 pub fn is_outside(surface: &Surface, lo: Option<i64>, hi: Option<i64>, value: Iv) -> bool
     requires surface { IsSurface surface.now }
     requires lo { IfSome lo IsBound }

@@ -145,14 +145,6 @@ contact-is (Plane d p) hi is vs all = refl
 contact-is (Axis d p) hi is vs all = absurd is
 contact-is (Ball p) hi is vs all = absurd is
 
-pub contact-holds : (s : Surface) (hi : ℤ) → IsPair s (Contact hi) → (vs all : List Ends) (least greatest : Ends) → AreExtremes vs least greatest
-    → is_at_most least.hi hi (length2_of s) ≡ surface_holds s (Contact hi) vs all
-contact-holds s hi is vs all least greatest e =
-    sym (contact-is s hi is vs all ∙ any-first (λ x y. is_at_most x hi (length2_of s)) (λ x x' y y' h k t. at-most-below x x' hi (length2_of s) h t) (λ v. v.hi) (λ v. v.hi) vs vs (pos 0) least.hi e.least_hi)
-
-pub contact-of-none : (s : Surface) (hi : ℤ) → IsPair s (Contact hi) → (vs all : List Ends) → vs ≡ [] → false ≡ surface_holds s (Contact hi) vs all
-contact-of-none s hi is vs all e = subst (λ z. false ≡ surface_holds s (Contact hi) z all) (sym e) (sym (contact-is s hi is [] all))
-
 inner-is : (s : Surface) (t : ℤ) → IsPair s (HugInner t) → (vs all : List Ends) → surface_holds s (HugInner t) vs all ≡ list_any (λ a. list_all (λ b. passes_at_most s t a.hi b.lo) all) vs
 unfolding tests.plane_holds tests.distance_holds
 inner-is (Plane d p) t is vs all = absurd is
@@ -205,6 +197,19 @@ pub within-not : (s : Surface) (lo hi : Option ℤ) (f : ℕ → Ends) (ns : Lis
     → false ≡ surface_holds s (Within lo hi) (map f ns) all
 within-not s lo hi f ns all j l h =
     sym (within-is s lo hi (map f ns) all ∙ list_all_at (value_within s lo hi) (map f ns) j (f (get_or ns j 0)) (omega (arith, l, length-map ns f)) (ap (value_within s lo hi) (get_or-map f ns j 0 (f (get_or ns j 0)) l) ∙ h))
+
+pub contact-some : (s : Surface) (hi : ℤ) → IsPair s (Contact hi) → (f : ℕ → Ends) (ns : List ℕ) (all : List Ends) (j : ℕ) → j < length ns → is_at_most (f (get_or ns j 0)).hi hi (length2_of s) ≡ true
+    → true ≡ surface_holds s (Contact hi) (map f ns) all
+contact-some s hi is f ns all j l h =
+    sym (contact-is s hi is (map f ns) all ∙ list_any_at (λ (v : Ends). is_at_most v.hi hi (length2_of s)) (map f ns) j (f (get_or ns j 0)) (omega (arith, l, length-map ns f))
+    (ap (λ (v : Ends). is_at_most v.hi hi (length2_of s)) (get_or-map f ns j 0 (f (get_or ns j 0)) l) ∙ h))
+
+pub contact-none : (s : Surface) (hi : ℤ) → IsPair s (Contact hi) → (f : ℕ → Ends) (ns : List ℕ) (all : List Ends) → ((j : ℕ) → j < length ns → is_at_most (f (get_or ns j 0)).hi hi (length2_of s) ≡ false)
+    → false ≡ surface_holds s (Contact hi) (map f ns) all
+contact-none s hi is f ns all h =
+    sym (contact-is s hi is (map f ns) all ∙ list_any_none (λ (v : Ends). is_at_most v.hi hi (length2_of s)) (map f ns) (λ k d l.
+    let m : k < length ns = omega (arith, l, length-map ns f) in
+    subst (λ (v : Ends). is_at_most v.hi hi (length2_of s) ≡ false) (sym (get_or-map f ns k 0 d m)) (h k m)))
 
 -- ---- a first test that passed
 pub and-then : (p q a b : Bool) → p ≡ a → p ≡ true → q ≡ b → q ≡ (a && b)

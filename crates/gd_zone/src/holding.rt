@@ -26,6 +26,7 @@ use gd_quat::Assignment;
 use gd_vec::V3;
 
 // Whether a value isn't above a bound, where there is one.
+#[inline(always)]
 fn is_below(s: i128, hi: Option<i64>, n2: i128) -> bool
     requires s { unsigned_abs s ≤ 2 ^ 60 }
     requires hi { IfSome hi IsBound }
@@ -40,6 +41,7 @@ fn is_below(s: i128, hi: Option<i64>, n2: i128) -> bool
 }
 
 // Whether a value isn't below a bound, where there is one.
+#[inline(always)]
 fn is_above(s: i128, lo: Option<i64>, n2: i128) -> bool
     requires s { unsigned_abs s ≤ 2 ^ 60 }
     requires lo { IfSome lo IsBound }
@@ -54,6 +56,7 @@ fn is_above(s: i128, lo: Option<i64>, n2: i128) -> bool
 }
 
 // Whether a distance isn't above a bound, where there is one: the squares are compared.
+#[inline(always)]
 fn is_near(c: i128, hi: Option<i64>, n2: i128) -> bool
     requires hi { IfSome hi IsBound }
     requires n2 { unsigned_abs n2 ≤ 2 ^ 22 }
@@ -66,6 +69,7 @@ fn is_near(c: i128, hi: Option<i64>, n2: i128) -> bool
 }
 
 // Whether a distance isn't below a bound, where there is one: the squares are compared.
+#[inline(always)]
 fn is_far(c: i128, lo: Option<i64>, n2: i128) -> bool
     requires lo { IfSome lo IsBound }
     requires n2 { unsigned_abs n2 ≤ 2 ^ 22 }
@@ -78,6 +82,7 @@ fn is_far(c: i128, lo: Option<i64>, n2: i128) -> bool
 }
 
 // Whether a value along a direction lies within two bounds.
+#[inline(always)]
 fn is_plane_within(lo: Option<i64>, hi: Option<i64>, n2: i128, value: Iv) -> bool
     requires lo { IfSome lo IsBound }
     requires hi { IfSome hi IsBound }
@@ -91,6 +96,7 @@ fn is_plane_within(lo: Option<i64>, hi: Option<i64>, n2: i128, value: Iv) -> boo
 }
 
 // Whether a distance lies within two bounds.
+#[inline(always)]
 fn is_distance_within(lo: Option<i64>, hi: Option<i64>, n2: i128, value: Iv) -> bool
     requires lo { IfSome lo IsBound }
     requires hi { IfSome hi IsBound }
@@ -101,6 +107,7 @@ fn is_distance_within(lo: Option<i64>, hi: Option<i64>, n2: i128, value: Iv) -> 
 }
 
 // Whether a value lies within two bounds at every placement of the box.
+#[inline(always)]
 fn is_within(surface: &Surface, lo: Option<i64>, hi: Option<i64>, value: Iv) -> bool
     requires surface { IsSurface surface.now }
     requires lo { IfSome lo IsBound }
@@ -165,7 +172,19 @@ fn spread_holds(view: &View<'_>, t: i64) -> bool
     }
 }
 
-// Whether the least value of the group isn't above a bound.
+// Whether a value along a direction isn't above a bound at any placement of the box.
+#[inline]
+fn touches(surface: &Surface, hi: i64, value: Iv) -> bool
+    requires surface { IsSurface surface.now }
+    requires hi { IsBound hi }
+    requires pair { IsPair surface.now (Contact hi) }
+    requires value { IsSized surface.now value }
+    ensures { result ≡ is_at_most value.hi hi (length2_of surface.now) }
+{
+    is_at_most(value.hi, hi, length2(surface))
+}
+
+// Whether some value of the group isn't above a bound. The first that isn't ends the loop.
 fn contact_holds(view: &View<'_>, hi: i64) -> bool
     requires condition { IsCondition view.now.subject.now.condition }
     requires hi { IsBound hi }
@@ -174,10 +193,14 @@ fn contact_holds(view: &View<'_>, hi: i64) -> bool
         (map (value_in view.now) (points_in view.now))
         (map (value_in view.now) (feature_in view.now)) }
 {
-    match extremes_of(view, view.subject.points()) {
-        None => false,
-        Some(x) => is_at_most(x.least.hi, hi, length2(&view.subject.condition.surface)),
+    let group = view.subject.points();
+    for at in 0..group.len() {
+        let value = view.value(group[at]);
+        if touches(&view.subject.condition.surface, hi, value) {
+            return true;
+        }
     }
+    false
 }
 
 // Whether the least distance of the group passes that of the feature by `slack` at most.

@@ -1,0 +1,11 @@
+use Rattle.std.proofs.Common.{◌≡◌, ◌<◌, ℕ, get_or, false}
+use Rattle.gd_zone.specs.Boxes.{placed_ends}
+use Rattle.gd_zone.specs.Conditions.{length2_of}
+use Rattle.gd_zone.specs.Extremes.{ends_by}
+use Rattle.gd_zone.specs.Tests.{is_at_most}
+use Rattle.gd_zone.proofs.holding.contact_holds.Given as goal
+
+abbrev pub invariant-loop-at : goal.invariant-loop-at
+invariant-loop-at l = record {
+  apart : (j : ℕ) → j < l.at → is_at_most (ends_by (placed_ends l.view.placed.now) l.view.base.now l.view.subject.now.condition l.view.subject.now.index.now.table.now.rows (get_or l.group j 0)).hi l.hi (length2_of l.view.subject.now.condition.surface) ≡ false;
+}
