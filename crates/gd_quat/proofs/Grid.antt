@@ -1,11 +1,11 @@
 -- Placements of the grid: their boxes hold them.
-use Rattle.std.proofs.Common.{◌≡◌, sym, ap, subst, ℕ, ◌+◌, ◌*◌, ◌^◌, ◌<◌, Bool, true, false, ◌==◌, arith}
+use Rattle.std.proofs.Common.{◌≡◌, refl, sym, ap, subst, ◌∙◌, ℕ, zero, suc, ◌+◌, ◌*◌, ◌^◌, ◌<◌, ◌≤◌, Bool, true, false, ◌==◌, arith}
 use Rattle.std.proofs.lemmas.Int.{ints}
 use Rattle.std.specs.Prelude.{ℤ, pos, ◌*ℤ◌, if◌then◌else◌}
 use Rattle.gd_interval.specs.Interval.{Inside}
 use Rattle.gd_interval.specs.declared.iv.Iv.{Iv}
 use Rattle.gd_quat.specs.Boxes.{HoldsRotation, HoldsVector}
-use Rattle.gd_quat.specs.Formulas.{alone, ends, grid_ends, point_ends, rotation_ends, vector_ends}
+use Rattle.gd_quat.specs.Formulas.{Ends, alone, ends, grid_ends, leading_ends, point_ends, rotation_ends, vector_ends}
 use Rattle.gd_quat.specs.Placements.{IsPlacement, placement_of, rotation_at, times}
 use Rattle.gd_quat.specs.Rotations.{IsRotation, Rotation}
 use Rattle.gd_quat.specs.declared.shape.Assignment.{Assignment}
@@ -28,6 +28,18 @@ holds-grid face r b e = record {
   q2 = held-alone b.q2 (rotation_at face r).q2 (ap (λ z. z.q2) e);
   q3 = held-alone b.q3 (rotation_at face r).q3 (ap (λ z. z.q3) e);
 }
+
+-- the box with 1 at the face and the ratios at the others is that of the grid
+pub leading-grid : (face : ℕ) (r : Ratios) (x y z : Ends) → face ≤ 3 → x ≡ alone r.first → y ≡ alone r.second → z ≡ alone r.third → leading_ends face x y z ≡ grid_ends face r
+leading-grid face r x y z few e f g =
+    ap (λ t. leading_ends face t y z) e ∙ ap (λ t. leading_ends face (alone r.first) t z) f ∙ ap (λ t. leading_ends face (alone r.first) (alone r.second) t) g ∙ alike face few
+  where
+    alike : (face : ℕ) → face ≤ 3 → leading_ends face (alone r.first) (alone r.second) (alone r.third) ≡ grid_ends face r
+    alike zero few = refl
+    alike (suc zero) few = refl
+    alike (suc (suc zero)) few = refl
+    alike (suc (suc (suc zero))) few = refl
+    alike (suc (suc (suc (suc n)))) few = absurd (omega (arith, few))
 
 held-shift : (a : Iv) (z : ℤ) → ends a ≡ alone z → Inside a.lo a.hi (2 ^ 16) (pos (2 ^ 16) *ℤ z)
 held-shift a z e = subst (λ y. Inside y.lo y.hi (2 ^ 16) (pos (2 ^ 16) *ℤ z)) (sym e) (omega (arith, ints), omega (arith, ints))

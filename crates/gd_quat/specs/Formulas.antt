@@ -1,5 +1,6 @@
 -- The ends of the entries of matrices and images, from the ends of the boxes that they are made of.
-use Rattle.std.specs.Prelude.{ℕ, ℤ, pos, ◌+ℤ◌, ◌-ℤ◌}
+use Rattle.std.specs.Prelude.{ℕ, ℤ, pos, ◌==◌, ◌+ℤ◌, ◌-ℤ◌, if◌then◌else◌}
+use Rattle.gd_base.specs.Scales.{ONE}
 use Rattle.gd_interval.specs.Formulas.{scale_lo, scale_hi, mul_lo, mul_hi, square_lo, square_hi, quot_lo, quot_hi}
 use Rattle.gd_interval.specs.Formulas.{narrow_lo, narrow_hi}
 use Rattle.gd_interval.specs.declared.iv.Iv.{Iv}
@@ -142,6 +143,14 @@ alone z = record { lo = z; hi = z }
 
 abbrev pub point_ends : V3 → VectorEnds
 point_ends v = record { x = alone v.x; y = alone v.y; z = alone v.z }
+
+-- the component that leads is 1, and the three others are given in ascending order
+abbrev pub leading_ends : ℕ → Ends → Ends → Ends → RotationEnds
+leading_ends face a b d =
+    if face == 0 then record { q0 = alone (pos ONE); q1 = a; q2 = b; q3 = d }
+    else (if face == 1 then record { q0 = a; q1 = alone (pos ONE); q2 = b; q3 = d }
+    else (if face == 2 then record { q0 = a; q1 = b; q2 = alone (pos ONE); q3 = d }
+    else record { q0 = a; q1 = b; q2 = d; q3 = alone (pos ONE) }))
 
 -- the rotation of a face and three ratios alone
 abbrev pub grid_ends : ℕ → Ratios → RotationEnds

@@ -4,7 +4,7 @@ ghost use Rattle.gd_base.specs.Scales.{ONE};
 ghost use Rattle.gd_quat.specs.Boxes.{EnclosesMoved, EnclosesTurned, Fits, HoldsImage, HoldsVector, HoldsRotation};
 ghost use Rattle.gd_quat.specs.Boxes.{IsRotationBox, MatrixFits, MatrixWidth, TurnedWidth, VectorFits};
 ghost use Rattle.gd_quat.specs.Boxes.{ENTRY_SIZE, IMAGE_SIZE, MATRIX_SIZE, VECTOR_SIZE};
-ghost use Rattle.gd_quat.specs.Formulas.{alone, ends, grid_ends, grid_image_formula, matrix_ends, moved_formula};
+ghost use Rattle.gd_quat.specs.Formulas.{alone, ends, grid_ends, grid_image_formula, leading_ends, matrix_ends, moved_formula};
 ghost use Rattle.gd_quat.specs.Formulas.{multiple, point_ends, rotation_ends, row_formula, row_sum_formula, sum};
 ghost use Rattle.gd_quat.specs.Formulas.{turned_formula, vector_ends};
 ghost use Rattle.gd_quat.specs.Placements.{IsOnGrid, placement_of, rotation_at};
@@ -176,13 +176,23 @@ fn box_at(a: &Assignment) -> RotationBox
     ensures ends { rotation_ends result ≡ grid_ends a.now.face a.now.ratios }
     ensures fits { IsRotationBox result }
 {
-    let one = point(i128::from(scales::ONE));
-    let (first, second, third) = (
+    leading_at(
+        a.face,
         ratio(a.ratios.first),
         ratio(a.ratios.second),
         ratio(a.ratios.third),
-    );
-    match a.face {
+    )
+}
+
+/// The rotations with 1 at a component, by its number from 0, and three intervals at the others, in ascending order. The
+/// ratios are in 2^-30.
+#[inline]
+pub fn leading_at(face: u32, first: Iv, second: Iv, third: Iv) -> RotationBox
+    ensures ends { rotation_ends result ≡ leading_ends face (ends first) (ends second) (ends third) }
+    ensures fits { Fits ONE first → Fits ONE second → Fits ONE third → IsRotationBox result }
+{
+    let one = point(i128::from(scales::ONE));
+    match face {
         0 => RotationBox {
             q0: one,
             q1: first,

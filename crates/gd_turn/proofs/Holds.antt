@@ -16,14 +16,14 @@ use Rattle.gd_int.proofs.Integers.{mul-assoc_ℤ, mul_comm_ℤ}
 use Rattle.gd_interval.specs.Interval.{Inside}
 use Rattle.gd_interval.specs.declared.iv.Iv.{Iv}
 use Rattle.gd_quat.specs.Boxes.{Fits, HoldsRotation, HoldsVector, IsOne, IsRotationBox, VectorFits}
-use Rattle.gd_quat.specs.Formulas.{Ends, VectorEnds, alone, ends, point_ends, rotation_ends, vector_ends}
+use Rattle.gd_quat.specs.Formulas.{Ends, VectorEnds, alone, ends, leading_ends, point_ends, rotation_ends, vector_ends}
 use Rattle.gd_quat.specs.Placements.{Placement, times}
 use Rattle.gd_quat.specs.Rotations.{Rotation}
 use Rattle.gd_quat.specs.declared.shape.RotationBox.{RotationBox}
 use Rattle.gd_quat.specs.declared.shape.VecBox.{VecBox}
 use Rattle.gd_grid.proofs.Steps.{cell_root}
 use Rattle.gd_turn.proofs.Coordinates.{are_coordinates, first_root, last_root, later_is, length_of}
-use Rattle.gd_turn.specs.Boxes.{EnclosesPlacements, IsBoxOf, IsCellBox, ends_in, offset_ends, three_from, turn_ends}
+use Rattle.gd_turn.specs.Boxes.{EnclosesPlacements, IsBoxOf, IsCellBox, ends_in, offset_ends, three_from}
 use Rattle.gd_turn.specs.Ranges.{AreRanges, ORIGIN, cells_of, component, coordinates_of, face_of, fine, first_other}
 use Rattle.gd_turn.specs.Ranges.{length_about, numbers_of, ratio, ratio_to, roots_of, second_other, third_other}
 use Rattle.gd_turn.specs.Ranges.{turn_of}
@@ -81,7 +81,7 @@ counts_squared lead h = sized (unsigned_abs lead) h
     sized (suc n) h = omega arith
 
 holds_rotation : (face : ℕ) (b : RotationBox) (x y z : Ends) (q : Rotation) → face ≤ 3
-    → rotation_ends b ≡ turn_ends face x y z → 0 < unsigned_abs (component face q)
+    → rotation_ends b ≡ leading_ends face x y z → 0 < unsigned_abs (component face q)
     → IsBetween x.lo x.hi (ratio_to (component face q)
     (component (first_other face) q)).under (ratio_to (component face q) (component (first_other face) q)).value
     → IsBetween y.lo y.hi (ratio_to (component face q)
@@ -181,7 +181,7 @@ holds_placement r c b are cell box p placement lies =
     let root = cell_root (cells_of r) c cell in
     let face : ℕ = lies.face in
     let few : face ≤ 3 = rw lies.is_face (face_small r.turn c.root root.1) in
-    let turn : rotation_ends b.turn ≡ turn_ends face (ends_in r c 0) (ends_in r c 1)
+    let turn : rotation_ends b.turn ≡ leading_ends face (ends_in r c 0) (ends_in r c 1)
     (ends_in r c 2) = rw lies.is_face box.turn in
     record {
       turn = holds_rotation face b.turn (ends_in r c 0) (ends_in r c 1) (ends_in r c 2) p.turn few turn lies.leads
@@ -278,7 +278,7 @@ is_one a e = (ap (λ (t : Ends). t.lo) e, ap (λ (t : Ends). t.hi) e)
 abbrev IsRatio : Ends → Type 0
 IsRatio e = (unsigned_abs e.lo ≤ 2 ^ 30) × (unsigned_abs e.hi ≤ 2 ^ 30)
 
-rotation_fits : (face : ℕ) (b : RotationBox) (x y z : Ends) → face ≤ 3 → rotation_ends b ≡ turn_ends face x y z
+rotation_fits : (face : ℕ) (b : RotationBox) (x y z : Ends) → face ≤ 3 → rotation_ends b ≡ leading_ends face x y z
     → IsRatio x → IsRatio y → IsRatio z → IsRotationBox b
 rotation_fits zero b x y z few e f g h = record {
   q0 = one_size b.q0 (ap (λ t. t.q0) e);

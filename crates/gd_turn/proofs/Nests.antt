@@ -7,14 +7,14 @@ use Rattle.gd_cells.specs.Grid.{Grid, cell_of}
 use Rattle.gd_cells.specs.declared.cell.Cell.{Cell}
 use Rattle.gd_grid.proofs.InTurn.{nest_in_turn}
 use Rattle.gd_interval.specs.declared.iv.Iv.{Iv}
-use Rattle.gd_quat.specs.Formulas.{Ends, RotationEnds, VectorEnds, alone, ends, point_ends, rotation_ends, vector_ends}
+use Rattle.gd_quat.specs.Formulas.{Ends, RotationEnds, VectorEnds, alone, ends, leading_ends, point_ends, rotation_ends, vector_ends}
 use Rattle.gd_quat.specs.Laws.{Lies, RotationInside, VectorInside}
 use Rattle.gd_quat.specs.declared.shape.RotationBox.{RotationBox}
 use Rattle.gd_quat.specs.declared.shape.VecBox.{VecBox}
 use Rattle.gd_grid.proofs.Steps.{root_is}
 use Rattle.gd_turn.proofs.Coordinates.{are_coordinates, first_root, last_root, length_of}
 use Rattle.gd_turn.proofs.Holds.{face_small, has_none, has_offset}
-use Rattle.gd_turn.specs.Boxes.{ends_in, three_from, turn_ends}
+use Rattle.gd_turn.specs.Boxes.{ends_in, three_from}
 use Rattle.gd_turn.specs.Covers.{BoxesNest}
 use Rattle.gd_turn.specs.Ranges.{ORIGIN, cells_of, coordinates_of, face_of, roots_of}
 
@@ -45,16 +45,16 @@ rotations_nest b d x y e f g h i j = record {
   q3 = lies b.q3 d.q3 x.q3 y.q3 (ap (λ t. t.q3) e) (ap (λ t. t.q3) f) j;
 }
 
-turns_nest : (face : ℕ) (b d : RotationBox) (x y z u v w : Ends) → face ≤ 3 → rotation_ends b ≡ turn_ends face x y z
-    → rotation_ends d ≡ turn_ends face u v w → Part x u → Part y v → Part z w → RotationInside b d
-turns_nest zero b d x y z u v w few e f g h i = rotations_nest b d (turn_ends 0 x y z)
-    (turn_ends 0 u v w) e f (itself (alone (pos (2 ^ 30)))) g h i
-turns_nest (suc zero) b d x y z u v w few e f g h i = rotations_nest b d (turn_ends 1 x y z)
-    (turn_ends 1 u v w) e f g (itself (alone (pos (2 ^ 30)))) h i
-turns_nest (suc (suc zero)) b d x y z u v w few e f g h i = rotations_nest b d (turn_ends 2 x y z)
-    (turn_ends 2 u v w) e f g h (itself (alone (pos (2 ^ 30)))) i
-turns_nest (suc (suc (suc zero))) b d x y z u v w few e f g h i = rotations_nest b d (turn_ends 3 x y z)
-    (turn_ends 3 u v w) e f g h i (itself (alone (pos (2 ^ 30))))
+turns_nest : (face : ℕ) (b d : RotationBox) (x y z u v w : Ends) → face ≤ 3 → rotation_ends b ≡ leading_ends face x y z
+    → rotation_ends d ≡ leading_ends face u v w → Part x u → Part y v → Part z w → RotationInside b d
+turns_nest zero b d x y z u v w few e f g h i = rotations_nest b d (leading_ends 0 x y z)
+    (leading_ends 0 u v w) e f (itself (alone (pos (2 ^ 30)))) g h i
+turns_nest (suc zero) b d x y z u v w few e f g h i = rotations_nest b d (leading_ends 1 x y z)
+    (leading_ends 1 u v w) e f g (itself (alone (pos (2 ^ 30)))) h i
+turns_nest (suc (suc zero)) b d x y z u v w few e f g h i = rotations_nest b d (leading_ends 2 x y z)
+    (leading_ends 2 u v w) e f g h (itself (alone (pos (2 ^ 30)))) i
+turns_nest (suc (suc (suc zero))) b d x y z u v w few e f g h i = rotations_nest b d (leading_ends 3 x y z)
+    (leading_ends 3 u v w) e f g h i (itself (alone (pos (2 ^ 30))))
 turns_nest (suc (suc (suc (suc n)))) b d x y z u v w few e f g h i = absurd (omega arith)
 
 pub boxes_nest : BoxesNest
@@ -71,7 +71,7 @@ boxes_nest r root level path side a b are first last above small half cell =
     record {
       turn = turns_nest (face_of r.turn c.root) a.turn b.turn (ends_in r d 0) (ends_in r d 1) (ends_in r d 2)
           (ends_in r c 0) (ends_in r c 1) (ends_in r c 2) few
-          (subst (λ m. rotation_ends a.turn ≡ turn_ends m (ends_in r d 0) (ends_in r d 1)
+          (subst (λ m. rotation_ends a.turn ≡ leading_ends m (ends_in r d 0) (ends_in r d 1)
           (ends_in r d 2)) same half.turn) cell.turn (at 0 (omega arith)) (at 1 (omega arith)) (at 2 (omega arith));
       shift = vectors_nest a.shift b.shift (three_from r d 3)
           (three_from r c 3) half.shift cell.shift (at 3 (omega arith)) (at 4 (omega arith)) (at 5 (omega arith));

@@ -1,10 +1,10 @@
 -- Boxes of the placements of a cell, and what they hold.
-use Rattle.std.specs.Prelude.{ℕ, pos, ◌+◌, ◌*◌, ◌^◌, ◌≡◌, ◌==◌, ◌-ℤ◌, ◌*ℤ◌, ◌≤ℤ◌, nat_le, if◌then◌else◌}
-use Rattle.gd_base.specs.Scales.{FINE, ONE}
+use Rattle.std.specs.Prelude.{ℕ, pos, ◌+◌, ◌*◌, ◌^◌, ◌≡◌, ◌-ℤ◌, ◌*ℤ◌, ◌≤ℤ◌, nat_le, if◌then◌else◌}
+use Rattle.gd_base.specs.Scales.{FINE}
 use Rattle.gd_cells.specs.declared.cell.Cell.{Cell}
 use Rattle.gd_grid.specs.Cells.{high_in, low_in}
 use Rattle.gd_quat.specs.Boxes.{HoldsRotation, HoldsVector, IsRotationBox, VectorFits, width_of}
-use Rattle.gd_quat.specs.Formulas.{Ends, RotationEnds, VectorEnds, alone, point_ends, rotation_ends, vector_ends}
+use Rattle.gd_quat.specs.Formulas.{Ends, RotationEnds, VectorEnds, leading_ends, point_ends, rotation_ends, vector_ends}
 use Rattle.gd_quat.specs.Laws.{RotationInside, VectorInside}
 use Rattle.gd_quat.specs.Placements.{IsPlacement, Placement, times}
 use Rattle.gd_quat.specs.declared.shape.VecBox.{VecBox}
@@ -26,16 +26,9 @@ three_from r c n = record { x = ends_in r c n; y = ends_in r c (n + 1); z = ends
 abbrev pub offset_ends : Ranges → Cell → ℕ → VectorEnds
 offset_ends r c number = if nat_le number r.offsets then three_from r c (3 * number + 3) else point_ends ORIGIN
 
--- the component that leads is 1, and the three others are given in ascending order
-abbrev pub turn_ends : ℕ → Ends → Ends → Ends → RotationEnds
-turn_ends face a b d =
-    if face == 0 then record { q0 = alone (pos ONE); q1 = a; q2 = b; q3 = d }
-    else (if face == 1 then record { q0 = a; q1 = alone (pos ONE); q2 = b; q3 = d }
-    else (if face == 2 then record { q0 = a; q1 = b; q2 = alone (pos ONE); q3 = d }
-    else record { q0 = a; q1 = b; q2 = d; q3 = alone (pos ONE) }))
-
+-- the component that leads is 1
 abbrev pub turn_ends_in : Ranges → Cell → RotationEnds
-turn_ends_in r c = turn_ends (face_of r.turn c.root) (ends_in r c 0) (ends_in r c 1) (ends_in r c 2)
+turn_ends_in r c = leading_ends (face_of r.turn c.root) (ends_in r c 0) (ends_in r c 1) (ends_in r c 2)
 
 -- the box of a cell, by its ends
 pub record IsBoxOf (r : Ranges) (c : Cell) (b : CellBox) : Type 0 where

@@ -5,19 +5,16 @@ ghost use Rattle.gd_cells.specs.Grid.{IsCell};
 ghost use Rattle.gd_grid.specs.Cells.{coordinate_at};
 ghost use Rattle.gd_quat.specs.Formulas.{ends, rotation_ends, vector_ends};
 ghost use Rattle.gd_turn.specs.Boxes.{EnclosesPlacements, IsBoxOf, IsCellBox, ends_in, offset_ends, three_from};
-ghost use Rattle.gd_turn.specs.Boxes.{turn_ends, turn_ends_in};
+ghost use Rattle.gd_turn.specs.Boxes.{turn_ends_in};
 ghost use Rattle.gd_turn.specs.Ranges.{AreRanges, cells_of, coordinates_of, face_of, length_about, ratio, turn_of};
 
 use crate::ranges::{CellBox, Ranges, TurnRange};
 use gd_base::scales::FINE;
 use gd_cells::Cell;
 use gd_grid::{Coordinate, about, coordinate_box};
-use gd_interval::{Iv, between, point};
-use gd_quat::{RotationBox, VecBox, point_box};
+use gd_interval::{Iv, between};
+use gd_quat::{RotationBox, VecBox, leading_at, point_box};
 use gd_vec::V3;
-
-/// 1 as a ratio. Ratios are in 2^-30.
-const ONE: i128 = 1 << 30;
 
 /// An offset that the ranges don't have.
 const ORIGIN: V3 = V3 { x: 0, y: 0, z: 0 };
@@ -71,40 +68,6 @@ pub fn face_of(turn: TurnRange, root: u32) -> u32
     match turn {
         TurnRange::All => root - 1,
         TurnRange::Within(_) => 0,
-    }
-}
-
-// The rotations with 1 at a component and three intervals at the others, in ascending order.
-#[inline]
-fn leading_at(face: u32, first: Iv, second: Iv, third: Iv) -> RotationBox
-    ensures { rotation_ends result ≡ turn_ends face (ends first) (ends second) (ends third) }
-{
-    let one = point(ONE);
-    match face {
-        0 => RotationBox {
-            q0: one,
-            q1: first,
-            q2: second,
-            q3: third,
-        },
-        1 => RotationBox {
-            q0: first,
-            q1: one,
-            q2: second,
-            q3: third,
-        },
-        2 => RotationBox {
-            q0: first,
-            q1: second,
-            q2: one,
-            q3: third,
-        },
-        _ => RotationBox {
-            q0: first,
-            q1: second,
-            q2: third,
-            q3: one,
-        },
     }
 }
 

@@ -17,7 +17,7 @@ use Rattle.gd_quat.proofs.Encloses.{holds-matrix, norm-large}
 use Rattle.gd_quat.proofs.Grid.{grid-rotation, holds-grid, holds-point}
 use Rattle.gd_quat.specs.Boxes.{Fits, IsRotationBox}
 use Rattle.gd_quat.specs.Formulas.{Ends, MatrixEnds, RotationEnds, VectorEnds, alone, balance, difference, ends}
-use Rattle.gd_quat.specs.Formulas.{grid_ends, matrix_ends, matrix_formula, multiple, norm_ends, numerator_ends}
+use Rattle.gd_quat.specs.Formulas.{grid_ends, leading_ends, matrix_ends, matrix_formula, multiple, norm_ends, numerator_ends}
 use Rattle.gd_quat.specs.Formulas.{point_ends, product, quotient, quotients, rotation_ends, square, sum, total}
 use Rattle.gd_quat.specs.Formulas.{vector_ends}
 use Rattle.gd_quat.specs.Placements.{IsOnGrid, IsPlacement, Placement, placement_of, rotation_at}
@@ -28,7 +28,7 @@ use Rattle.gd_quat.specs.declared.shape.Ratios.{Ratios}
 use Rattle.gd_quat.specs.declared.shape.RotationBox.{RotationBox}
 use Rattle.gd_quat.specs.declared.shape.VecBox.{VecBox}
 use Rattle.gd_turn.proofs.Holds.{holds_placement, is_cell_box}
-use Rattle.gd_turn.specs.Boxes.{IsBoxOf, ends_in, offset_ends, three_from, turn_ends, turn_ends_in}
+use Rattle.gd_turn.specs.Boxes.{IsBoxOf, ends_in, offset_ends, three_from, turn_ends_in}
 use Rattle.gd_turn.specs.Ranges.{AreRanges, LiesIn, ORIGIN, cells_of, coordinates_of, face_of}
 use Rattle.gd_turn.specs.declared.ranges.CellBox.{CellBox}
 use Rattle.gd_turn.specs.declared.ranges.Ranges.{Ranges}
@@ -162,7 +162,7 @@ offset_boxed r c number = choose (nat_le number r.offsets)
     choose true = (three_boxed r c (3 * number + 3), refl)
     choose false = (only_vector ORIGIN, refl)
 
-turn_boxed : (face : ℕ) (x y z : Iv) → (b : RotationBox) × (rotation_ends b ≡ turn_ends face (ends x) (ends y) (ends z))
+turn_boxed : (face : ℕ) (x y z : Iv) → (b : RotationBox) × (rotation_ends b ≡ leading_ends face (ends x) (ends y) (ends z))
 turn_boxed face x y z = choose (face == 0) (face == 1) (face == 2)
   where
     choose : (s t u : Bool) → (b : RotationBox) × (rotation_ends b ≡ (
