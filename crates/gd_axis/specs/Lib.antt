@@ -4,5 +4,7 @@ pub mod AxisLaws
 pub mod AxisTask
 pub mod AxisTests
 pub mod Laws
+pub mod Lenses
+pub mod Shorts
 pub mod Sizes
 pub mod Zones

@@ -3,12 +3,15 @@ ghost use Rattle.std.specs.Prelude.{◌≡◌, ◌<◌, ◌≤◌, ◌*ℤ◌, �
 ghost use Rattle.std.specs.Int.{int_max, int_min};
 ghost use Rattle.gd_axis.specs.AxisBoxes.{IsDistance, IsDistance2};
 ghost use Rattle.gd_axis.specs.AxisTests.{far_ends, lower_ends, near_ends, upper_ends};
+ghost use Rattle.gd_axis.specs.Lenses.{IsLens};
 ghost use Rattle.gd_flat.specs.FlatTests.{greatest, least, place_of};
 ghost use Rattle.gd_zone.specs.Tests.{ceil_root, floor_root};
 
 use crate::axis::value;
 use crate::axis_box::AxisBox;
 use crate::judged::{Judged, number_at, point_of};
+use crate::lens::Lens;
+use crate::view::{lens_of, value_through};
 use gd_interval::{Iv, greatest, least, root_above, root_below, times};
 
 /// The greatest and the least of the lower ends of values, and of their upper ends, in squares of fine units.
@@ -37,6 +40,22 @@ pub fn value_at(over: &AxisBox<'_>, judged: &Judged<'_>, at: usize) -> Iv
 {
     let point = point_of(&judged.points, number_at(judged, at));
     value(over.shape, over.b, &over.own, &point)
+}
+
+// The same through the lens of the box.
+#[inline(always)]
+fn value_seen(lens: &Lens, over: &AxisBox<'_>, judged: &Judged<'_>, at: usize) -> Iv
+    requires lens { IsLens over.now.shape over.now.b.now lens.now }
+    requires at { at < length judged.now.numbers.now }
+    ensures lo { result.lo ≡ get_or (lower_ends over.now.shape over.now.b.now over.now.own
+        judged.now.points.table.now.rows judged.now.numbers.now) at (pos 0) }
+    ensures hi { result.hi ≡ get_or (upper_ends over.now.shape over.now.b.now over.now.own
+        judged.now.points.table.now.rows judged.now.numbers.now) at (pos 0) }
+    ensures lo_fits { IsDistance2 result.lo }
+    ensures hi_fits { IsDistance2 result.hi }
+{
+    let point = point_of(&judged.points, number_at(judged, at));
+    value_through(lens, over, &point)
 }
 
 // The extremes of one value.
@@ -86,9 +105,10 @@ pub fn extent_of(over: &AxisBox<'_>, judged: &Judged<'_>) -> Extent
     ensures least_hi { result.least_hi ≡ least (upper_ends over.now.shape over.now.b.now over.now.own
         judged.now.points.table.now.rows judged.now.numbers.now) }
 {
-    let mut extent = of_one(value_at(over, judged, 0));
+    let lens = lens_of(over);
+    let mut extent = of_one(value_seen(&lens, over, judged, 0));
     for at in 1..judged.numbers.len() {
-        extent = with(extent, value_at(over, judged, at));
+        extent = with(extent, value_seen(&lens, over, judged, at));
     }
     extent
 }

@@ -1,6 +1,7 @@
 //! Straightness, circularity and cylindricity: forms about an axis, judged over the cells of directions and offsets.
 #![tactic(auto)]
 
+mod across;
 mod axis;
 mod axis_box;
 mod axis_def;
@@ -8,11 +9,16 @@ mod extent;
 mod forms;
 mod judged;
 mod laws;
+mod lens;
 mod line;
 mod places;
 mod points;
+mod product;
 mod ring;
+mod short;
+mod square;
 mod task;
+mod view;
 
 pub use axis_box::AxisBox;
 pub use axis_def::{AxisDef, axis_task};
