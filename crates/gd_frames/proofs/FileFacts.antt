@@ -1,5 +1,5 @@
 -- What is so of a whole frame file that was read: the laws that `read_frames` cites.
-use Rattle.std.proofs.Common.{arith, ◌≡◌, ◌∙◌, refl, sym, ap, subst, ℕ, zero, suc, ◌+◌, ◌<◌, ◌≤◌, ◌≢◌, Bool, true, false, not, ◌||◌, cond, List, [], ◌∷◌, ◌++◌, map, length, get_or, take, Option, Some, None, Result, Ok, Err, IfOk, All, AllPairs, nat_lt, append_assoc}
+use Rattle.std.proofs.Common.{arith, ◌≡◌, ◌∙◌, refl, sym, ap, subst, ℕ, zero, suc, ◌+◌, ◌<◌, ◌≤◌, ◌≢◌, Bool, true, false, not, ◌||◌, List, [], ◌∷◌, ◌++◌, map, length, get_or, take, Option, Result, Ok, Err, IfOk, All, AllPairs, nat_lt, append_assoc}
 use Rattle.std.proofs.lemmas.Bool.{false≢true, leb-false}
 use Rattle.std.proofs.lemmas.List.{append-nil, get_or-map, length-append, length-map, map-append}
 use Rattle.std.proofs.lemmas.List.Elements.{All-nil, All-push}
@@ -7,17 +7,15 @@ use Rattle.std.proofs.lemmas.List.Quantifiers.{all_pairs_push}
 use Rattle.toml.specs.Data.{Members}
 use Rattle.gd_base.specs.Causes.{Gives}
 use Rattle.gd_base.specs.Limits.{CONDITIONS, OFFSETS}
-use Rattle.gd_base.specs.declared.fault.InputFault.{InputFault}
 use Rattle.gd_frames.proofs.Steps.{after, any, is_new, not_false, unless, view_apart, weaker}
 use Rattle.gd_frames.proofs.TableFacts.{IsDatumRead, IsFeatureRead, IsFrameRead, IsTop, datum_is, feature_is, frame_is, top_is}
 use Rattle.gd_frames.specs.Combinations.{is_allowed}
 use Rattle.gd_frames.specs.Counts.{frame_offsets, group_conditions, limits, lower_conditions}
-use Rattle.gd_frames.specs.Facts.{AreSmall, IsDatum, IsFeature, IsFile, IsFrame, IsJudged, IsSmall}
+use Rattle.gd_frames.specs.Facts.{IsDatum, IsFeature, IsFile, IsFrame, IsJudged, IsSmall}
 use Rattle.gd_frames.specs.Files.{and_entry, and_judged, file_in, frames, in_table, limits_from, tables_from, with_datum, with_feature, with_frame}
-use Rattle.gd_frames.specs.Needs.{has_numbers, have_contacts, judged}
+use Rattle.gd_frames.specs.Needs.{has_numbers, have_contacts}
 use Rattle.gd_keys.specs.Documents.{document}
 use Rattle.gd_keys.specs.Keys.{is_among}
-use Rattle.gd_keys.specs.Rules.{◌>>=◌}
 use Rattle.gd_keys.specs.declared.rule.Rule.{Rule}
 use Rattle.gd_keys.specs.declared.rule.Rule.TheVariants as rule
 use Rattle.gd_points.specs.Table.{Table}

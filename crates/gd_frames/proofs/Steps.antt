@@ -1,5 +1,5 @@
 -- What is so of each value that a reader may give, step by step.
-use Rattle.std.proofs.Common.{arith, ◌≡◌, ◌∙◌, refl, sym, ap, subst, ℕ, zero, suc, ◌+◌, ◌<◌, ◌≤◌, ◌≢◌, Bool, true, false, not, cond, List, [], ◌∷◌, ◌++◌, map, length, get_or, take, Option, Some, None, option_map, option_and_then, Result, Ok, Err, IfOk, IfSome, nat_eq, nat_le, All, AllPairs, position, ℤ, pos, negsuc, append_assoc}
+use Rattle.std.proofs.Common.{arith, ◌≡◌, ◌∙◌, refl, sym, ap, subst, ℕ, zero, suc, ◌<◌, ◌≤◌, ◌≢◌, Bool, true, false, not, cond, List, [], ◌∷◌, ◌++◌, map, length, get_or, Option, Some, None, option_map, option_and_then, Result, Ok, Err, IfOk, IfSome, nat_eq, nat_le, All, AllPairs, ℤ, pos, negsuc, append_assoc}
 use Rattle.std.proofs.lemmas.Bool.{and_parts, false≢true, leb-true}
 use Rattle.std.proofs.lemmas.List.{append-nil, get_or-map, length-map}
 use Rattle.std.proofs.lemmas.List.Folds.{list_any_at}

@@ -1,5 +1,5 @@
 -- What is so of each table of a frame file that was read.
-use Rattle.std.proofs.Common.{◌&&◌, arith, ◌≡◌, ◌∙◌, refl, sym, ap, subst, ℕ, suc, ◌+◌, ◌<◌, ◌≤◌, ◌≢◌, Bool, true, false, not, cond, List, [], ◌∷◌, map, length, get_or, Option, Some, None, option_map, Result, Ok, Err, IfOk, IfSome, nat_eq, nat_le, All, AllPairs, ℤ, pos, codes}
+use Rattle.std.proofs.Common.{◌&&◌, arith, ◌≡◌, refl, sym, ap, subst, ℕ, ◌<◌, ◌≤◌, ◌≢◌, Bool, true, false, cond, List, [], ◌∷◌, map, length, get_or, Option, Some, None, option_map, Ok, IfOk, IfSome, nat_eq, nat_le, AllPairs, ℤ, pos, codes}
 use Rattle.std.proofs.lemmas.Bool.{and_parts, false≢true, leb-true}
 use Rattle.std.specs.Cmp.Lexicographic.{pointwise}
 use Rattle.std.specs.List.{AllZip}
@@ -8,14 +8,13 @@ use Rattle.toml.specs.Data.{Data, Members, as_integer, get_member, string}
 use Rattle.gd_base.specs.Limits.{COORDINATE, DATUMS, DIAMETER, ENTRY, FEATURES, FRAMES, FRAME_FEATURES, RADIUS, SHIFT, SLACK, TOLERANCE, TURN, USUAL_SLACK, WORDS}
 use Rattle.gd_base.specs.Names.{name_of}
 use Rattle.gd_frames.proofs.Steps.{after, after_any, after_default, after_need, after_option, any, each_zip, found, map_apart, none_twice, number_small, ranged, some_is, stands, three_within, unless, valued, view_apart, when, zip_all, zip_apart, zip_length}
-use Rattle.gd_frames.specs.Facts.{ArePlaces, AreWords, IsDatum, IsFeature, IsFrame, IsTurn, IsUpTo}
-use Rattle.gd_keys.specs.Contents.{each_as, in_range, name, number, tables, texts, three, truth, word}
-use Rattle.gd_keys.specs.Keys.{default_to, is_among, needed, once, only, optional, value_or}
+use Rattle.gd_frames.specs.Facts.{ArePlaces, AreWords, IsDatum, IsFeature, IsFrame, IsTurn}
+use Rattle.gd_keys.specs.Contents.{each_as, name, number, tables, texts, three, truth, word}
+use Rattle.gd_keys.specs.Keys.{default_to, is_among, needed, once, only, value_or}
 use Rattle.gd_keys.specs.Rules.{◌>>=◌, or_broken}
-use Rattle.gd_keys.specs.declared.rule.Rule.{Rule}
 use Rattle.gd_keys.specs.declared.rule.Rule.TheVariants as rule
 use Rattle.gd_points.specs.Table.{Table}
-use Rattle.gd_tables.specs.Grammar.{Top, Word, datum_in, datum_keys, datum_of, direction, feature_in, feature_keys, features_in, frame_in, frame_keys, is_zero, known_feature, most_features, new_name, some_tables_to, tables_to, top_in, top_keys, turn_in, version, without_direction, word_of, words_in}
+use Rattle.gd_tables.specs.Grammar.{Top, Word, datum_in, datum_keys, datum_of, direction, feature_in, feature_keys, features_in, frame_in, frame_keys, is_zero, known_feature, most_features, new_name, some_tables_to, stated_in, tables_to, top_in, top_keys, turn_in, version, without_direction, word_of, words_in}
 use Rattle.gd_tables.specs.Kinds.{Frame, is_form}
 use Rattle.gd_tables.specs.Listed.{place_of}
 use Rattle.gd_tables.specs.Ranges.{ranges_of, version_1}
@@ -24,15 +23,12 @@ use Rattle.gd_tables.specs.declared.file.DatumDef.{DatumDef}
 use Rattle.gd_tables.specs.declared.file.DatumRef.{DatumRef}
 use Rattle.gd_tables.specs.declared.file.FeatureDef.{FeatureDef}
 use Rattle.gd_tables.specs.declared.kind.Kind.{Kind}
-use Rattle.gd_tables.specs.declared.kind.Kind.TheVariants as kind
 use Rattle.gd_tables.specs.declared.kind.Material.TheVariants as material
 use Rattle.gd_tables.specs.declared.kind.Shape.{Shape}
 use Rattle.gd_tables.specs.declared.kind.Shape.TheVariants as shape
-use Rattle.gd_tables.specs.declared.kind.Turn.{Turn}
 use Rattle.gd_tables.specs.declared.kind.Turn.TheVariants as turn
 use Rattle.gd_tables.specs.declared.ranges.Ranges.{Ranges}
 use Rattle.gd_vec.specs.Vector.{IsWithin}
-use Rattle.gd_vec.specs.declared.vector.V3.{V3}
 
 -- ---- the top level
 
@@ -320,7 +316,7 @@ pub record IsFrameRead (features datums : ℕ) (earlier : List (List ℕ)) (f : 
 
 pub frame_is : (features datums earlier : List (List ℕ)) (table : Members)
     → IfOk (frame_in features datums earlier table) (IsFrameRead (length features) (length datums) earlier)
-unfolding frame_in
+unfolding frame_in stated_in
 frame_is features datums earlier table =
     let Q : Frame → Type 0 = IsFrameRead (length features) (length datums) earlier in
     after_any Q (only frame_keys table) _ (λ _.

@@ -1,5 +1,5 @@
 -- For the proof of the reader, and cited by its private functions alone: what the lists that it makes stand for.
-use Rattle.std.specs.Prelude.{ℕ, List, [], map, Result, Ok, Err}
+use Rattle.std.specs.Prelude.{ℕ, [], map, Result, Ok}
 use Rattle.gd_base.specs.declared.fault.InputFault.{InputFault}
 use Rattle.gd_base.specs.declared.fault.ReadFault.{ReadFault}
 use Rattle.gd_base.specs.declared.fault.ReadFault.TheVariants as read_fault

@@ -176,12 +176,9 @@ abbrev pub frame_keys : List (List ℕ)
 frame_keys = codes "name" ∷ codes "kind" ∷ codes "features" ∷ codes "tolerance" ∷ codes "datums" ∷ codes "material"
     ∷ codes "above" ∷ codes "lower" ∷ codes "lower_datums" ∷ codes "separate" ∷ []
 
-unfoldable pub frame_in : List (List ℕ) → List (List ℕ) → List (List ℕ) → Members → Result Frame Rule
-frame_in features datums earlier table = do
-  _ ← only frame_keys table
-  name ← needed (codes "name") (new_name earlier) table
-  kind ← needed (codes "kind") (word kind_of) table
-  places ← needed (codes "features") (features_in features kind) table
+-- what stands behind a frame's features: the frame of a name, a kind and places
+unfoldable pub stated_in : List (List ℕ) → List ℕ → Kind → List ℕ → Members → Result Frame Rule
+stated_in datums name kind places table = do
   tolerance ← needed (codes "tolerance") (number TOLERANCE) table
   words ← default_to [] (codes "datums") (words_in datums) table
   material ← default_to material.Rfs (codes "material") (word material_of) table
@@ -201,3 +198,11 @@ frame_in features datums earlier table = do
     lower_datums = lower_words;
     separate = separate;
   })
+
+unfoldable pub frame_in : List (List ℕ) → List (List ℕ) → List (List ℕ) → Members → Result Frame Rule
+frame_in features datums earlier table = do
+  _ ← only frame_keys table
+  name ← needed (codes "name") (new_name earlier) table
+  kind ← needed (codes "kind") (word kind_of) table
+  places ← needed (codes "features") (features_in features kind) table
+  stated_in datums name kind places table

@@ -1,9 +1,11 @@
 // A frame table.
-ghost use Rattle.std.specs.Prelude.{◌≡◌, ◌<◌, ◌≤◌, [], codes, length, false, IfOk, IfSome};
+ghost use Rattle.std.specs.Prelude.{◌≡◌, ◌<◌, ◌≤◌, ℕ, List, [], codes, length, false, IfOk, IfSome};
 ghost use Rattle.toml.specs.View.{table_view, view};
-ghost use Rattle.gd_tables.specs.Grammar.{features_in, frame_in, words_in};
+ghost use Rattle.gd_tables.specs.Grammar.{features_in, frame_in, stated_in, words_in};
 ghost use Rattle.gd_tables.specs.Kinds.{frame_of};
+ghost use Rattle.gd_tables.specs.Seen.{seen_frame};
 ghost use Rattle.gd_tables.specs.Words.{kind_of, material_of};
+ghost use Rattle.gd_tables.specs.declared.kind.Kind.{Kind};
 ghost use Rattle.gd_tables.specs.declared.kind.Material.TheVariants as material;
 ghost use Rattle.gd_keys.specs.Contents.{number, truth, word};
 ghost use Rattle.gd_keys.specs.Keys.{default_to, is_among, needed};
@@ -16,12 +18,24 @@ use crate::file::{DatumDef, DatumRef, FeatureDef, FrameDef};
 use crate::kind::{Kind, Material, kind_of, material_of};
 use crate::listed::Listed;
 use crate::word::{features_in, words_in};
-use gd_base::limits;
+use gd_base::{Name, limits};
 use gd_keys::{
     KeyFault, Rule, needed, number_in, only_keys, optional_number, text_in, truth_in, value_at,
 };
 use std::alloc::Global;
 use toml::{Table, Value};
+
+// What a frame table states behind its features.
+#[derive(Drop)]
+struct Stated {
+    tolerance: u32,
+    datums: Vec<DatumRef>,
+    material: Material,
+    above: Option<u32>,
+    lower: Option<u32>,
+    lower_datums: Vec<DatumRef>,
+    separate: bool,
+}
 
 /// A frame table, whose name none of the earlier ones has.
 #[tactic(auto, unfolding(crate::specs::Grammar::frame_in))]
@@ -56,6 +70,36 @@ pub fn read_frame(
     let name = new_name(alloc, earlier, table)?;
     let kind = read_kind(table)?;
     let places = read_features(alloc, table, kind, features)?;
+    let stated = read_stated(alloc, table, datums)?;
+    Ok(whole_frame(name, kind, places, stated))
+}
+
+// The frame of what its table states.
+fn whole_frame(name: Name, kind: Kind, places: Vec<u32>, stated: Stated) -> FrameDef
+    ensures frame { frame_of result ≡ seen_frame name kind places.items stated }
+    ensures name { result.name ≡ name }
+{
+    FrameDef {
+        name,
+        kind,
+        features: places,
+        tolerance: stated.tolerance,
+        datums: stated.datums,
+        material: stated.material,
+        above: stated.above,
+        lower: stated.lower,
+        lower_datums: stated.lower_datums,
+        separate: stated.separate,
+    }
+}
+
+// What stands behind the features, whatever is before it.
+#[tactic(auto, unfolding(crate::specs::Grammar::stated_in))]
+fn read_stated(alloc: Global, table: &Table, datums: &Listed<DatumDef>) -> Result<Stated, KeyFault>
+    requires { length datums.now.names.keys ≤ DATUMS }
+    ensures { (n : List ℕ) (k : Kind) (ps : List ℕ) → Gives key_cause (seen_frame n k ps) result
+        (stated_in datums.now.names.keys n k ps (table_view table.now)) }
+{
     let tolerance = read_tolerance(table)?;
     let words = read_words(alloc, table, "datums", datums)?;
     let material = read_material(table)?;
@@ -63,10 +107,7 @@ pub fn read_frame(
     let lower = optional_number(table, "lower", tolerance)?;
     let lower_datums = read_words(alloc, table, "lower_datums", datums)?;
     let separate = read_separate(table)?;
-    Ok(FrameDef {
-        name,
-        kind,
-        features: places,
+    Ok(Stated {
         tolerance,
         datums: words,
         material,

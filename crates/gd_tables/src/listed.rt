@@ -1,5 +1,5 @@
 // The tables of one list: their names and what they state.
-ghost use Rattle.std.specs.Prelude.{◌≡◌, ◌<◌, [], ◌∷◌, ◌++◌, length, IfSome, OnOk, false};
+ghost use Rattle.std.specs.Prelude.{◌≡◌, ◌<◌, [], ◌∷◌, ◌++◌, length, IfSome, OnErr, OnOk, false};
 ghost use Rattle.gd_tables.specs.Listed.{place_of};
 ghost use Rattle.gd_keys.specs.Keys.{is_among};
 
@@ -26,14 +26,17 @@ impl<T: Drop> Listed<T> {
         }
     }
 
-    /// Adds a table whose name is new.
+    /// Adds a table whose name is new. On `Memory` the list is as it was.
     pub fn add(&mut self, name: Name, item: T) -> Result<(), Memory>
         requires { is_among self.old.names.keys name ≡ false }
         ensures names { OnOk result (self.new.names.keys ≡ self.old.names.keys ++ name ∷ []) }
         ensures items { OnOk result (self.new.items.items ≡ self.old.items.items ++ item ∷ []) }
+        ensures kept_names { OnErr result (self.new.names.keys ≡ self.old.names.keys) }
+        ensures kept_items { OnErr result (self.new.items.items ≡ self.old.items.items) }
     {
+        self.items.reserve(1)?;
         self.names.insert(name)?;
-        self.items.push(item)?;
+        self.items.push_reserved(item);
         Ok(())
     }
 
