@@ -2,8 +2,10 @@
 //! same formulas, the same checksums. It is written for a fair comparison of time. Nothing of it is proved.
 
 mod kernels;
+mod roots;
 
-use kernels::{CALLS, Draws, ONE, Turn, isqrt_ceil, isqrt_floor, rows, signed_square};
+use kernels::{CALLS, Draws, ONE, Turn, rows};
+use roots::{isqrt_ceil, isqrt_floor, signed_square};
 use std::cmp::Ordering;
 use std::process::ExitCode;
 

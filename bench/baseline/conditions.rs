@@ -4,8 +4,10 @@
 //! Ends are in 64 bits but for squares, the matrix is made once a cell, and roots are taken of the extremes alone.
 
 mod kernels;
+mod roots;
 
-use kernels::{CALLS, Draws, ONE, Turn, isqrt_ceil, isqrt_floor, rows, signed_square};
+use kernels::{CALLS, Draws, ONE, Turn, rows};
+use roots::{isqrt_ceil, isqrt_floor, signed_square};
 use std::process::ExitCode;
 
 /// How many points the feature has.

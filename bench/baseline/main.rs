@@ -1,18 +1,26 @@
-//! `gdteval flat`, `gdteval checkflat` and the search of `gdteval judge` in plain Rust, with the standard library alone: the same words, texts and statuses.
+//! `gdteval flat`, `gdteval checkflat` and the searches of `gdteval judge` in plain Rust, with the standard library alone: the
+//! same words, texts and statuses.
 //! Of a certificate that is misspelled only the line is that of gdteval, and not which of the codes 40 to 46.
 //! It is written for a fair comparison of time and as a second opinion on each answer. Nothing of it is proved.
 
+mod axis;
+mod cells;
 mod certificate;
 mod certificate_reader;
 mod check;
 mod flat;
 mod placed;
 mod points;
+mod rods;
+mod roots;
+mod words;
 
+use cells::Task;
 use certificate::{Certificate, Fault};
 use std::fs;
 use std::io::Write;
 use std::process::ExitCode;
+use words::Words;
 
 const WRONG_WORDS: &str = "gdteval: wrong words\n";
 
@@ -51,17 +59,28 @@ fn judge(file: &str, tolerance: u32, budget: u32, stored: Option<&str>) -> Resul
     Ok(outcome[0].answer())
 }
 
-/// Judges the groups of a frame file by their conditions, which a file beside it states as numbers.
+/// The groups of a file that states them as numbers: a form over all points, or groups of conditions.
+fn groups_of<'a>(text: &str, table: &'a points::Table, all: &'a [u32]) -> Vec<Box<dyn Task + 'a>> {
+    match text.strip_prefix("form ") {
+        Some(form) => vec![Box::new(rods::form_of(&mut Words::of(form), table, all))],
+        None => placed::groups_of(text, table).into_iter().map(|it| Box::new(it) as Box<dyn Task>).collect(),
+    }
+}
+
+/// Judges the groups of a frame file, which a file beside it states as numbers.
 fn judge_groups(frames: &str, file: &str, stored: &str, budget: u32) -> Result<Answer, Answer> {
     let table = table_of(file)?;
-    let groups = placed::groups_of(&format!("{frames}.numbers"), &table);
+    let numbers = format!("{frames}.numbers");
+    let text = fs::read_to_string(&numbers).map_err(|_| cannot_read(&numbers))?;
+    let all: Vec<u32> = (0..table.rows.len() as u32).collect();
+    let groups = groups_of(&text, &table, &all);
     let share = budget / groups.len() as u32;
-    let outcomes: Vec<_> = groups.iter().map(|group| group.judge(share)).collect();
+    let outcomes: Vec<_> = groups.iter().map(|group| cells::judge(group.as_ref(), share)).collect();
     fs::write(stored, Certificate::of(&outcomes, share).text()).map_err(|_| (String::new(), 6))?;
     let has = |status| outcomes.iter().any(|it| it.status() == status);
     let status = [1, 2].into_iter().find(|&it| has(it)).unwrap_or(0);
-    let line = |(number, (group, outcome)): (u32, (&placed::Group, &flat::Outcome))| {
-        format!("group {number} {} {}", group.label, outcome.report())
+    let line = |(number, (group, outcome)): (u32, (&Box<dyn Task>, &flat::Outcome))| {
+        format!("group {number} {} {}", group.label(), outcome.report())
     };
     let lines: String = (1..).zip(groups.iter().zip(&outcomes)).map(line).collect();
     Ok((format!("{lines}status {status}\n"), status))

@@ -1,15 +1,14 @@
-//! Groups of conditions over cells of placements, level by level, in exact whole numbers. The conditions are handed in as
+//! Groups of conditions over cells of placements, in exact whole numbers. The conditions are handed in as
 //! numbers, and are those of plates: zones about planes, axes and balls, differences along planes, and contact of planes.
 
-use crate::flat::{Evidence, Level, Outcome, Reason};
+use crate::cells::{Coordinate, Ends, FINE, Grid, ONE, Task};
+use crate::flat::Evidence;
 use crate::points::Table;
-use std::fs;
+use crate::words::Words;
 
-/// 1 as a ratio, and how many bits finer a turned entry is than the fine units that it is narrowed to.
-const ONE: i64 = 1 << 30;
+/// How many bits finer a turned entry is than the fine units that it is narrowed to.
 const NARROW: u32 = 14;
-/// A unit in fine units, and a half unit in fine units.
-const FINE: u32 = 16;
+/// A half unit in fine units.
 const HALF: i128 = 1 << 15;
 
 /// An interval in 64 bits, and one in 128.
@@ -225,54 +224,16 @@ impl Condition {
     }
 }
 
-// ---- cells
-
-/// The low end of a coordinate in a root, and its width as a power of two.
-struct Coordinate {
-    low: i64,
-    bits: u32,
-}
-
-/// The most coordinates: three ratios, a translation and two offsets.
-const MOST: usize = 12;
-
-#[derive(Clone, Copy)]
-struct Cell {
-    root: usize,
-    index: [i64; MOST],
-}
+// ---- the task
 
 pub struct Group {
-    pub label: String,
-    roots: usize,
-    coordinates: Vec<Coordinate>,
+    label: String,
+    grid: Grid,
     conditions: Vec<Condition>,
 }
 
 impl Group {
-    fn finest(&self) -> u32 {
-        let least = self.coordinates.iter().map(|it| it.bits - 1).min();
-        least.unwrap_or(0) * self.coordinates.len() as u32
-    }
-
-    /// Both ends of each coordinate of a cell.
-    fn ends(&self, cell: &Cell, level: u32) -> [Interval; MOST] {
-        let count = self.coordinates.len() as u32;
-        let mut ends = [[0; 2]; MOST];
-        for (at, coordinate) in self.coordinates.iter().enumerate() {
-            let halved = level / count + u32::from((at as u32) < level % count);
-            let width = 1 << (coordinate.bits - halved);
-            let low = coordinate.low + cell.index[at] * width;
-            ends[at] = [low, low + width];
-        }
-        ends
-    }
-
-    fn centre(&self, cell: &Cell, level: u32) -> [Interval; MOST] {
-        self.ends(cell, level).map(|[low, high]| [(low + high) >> 1; 2])
-    }
-
-    fn placed(&self, root: usize, ends: &[Interval; MOST]) -> Placed {
+    fn placed(&self, root: usize, ends: &Ends) -> Placed {
         let mut q = [[ONE; 2]; 4];
         let mut ratios = ends.iter();
         for (at, entry) in q.iter_mut().enumerate() {
@@ -281,87 +242,33 @@ impl Group {
             }
         }
         let vector = |from: usize| [ends[from], ends[from + 1], ends[from + 2]];
-        let offset = |from: usize| if from < self.coordinates.len() { vector(from) } else { NO_OFFSET };
+        let offset = |from: usize| if from < self.grid.coordinates.len() { vector(from) } else { NO_OFFSET };
         Placed { matrix: matrix(&q), shift: vector(3), offsets: [offset(6), offset(9)] }
     }
+}
 
-    fn evidence(&self, cell: &Cell, level: u32) -> Option<Evidence> {
-        let placed = self.placed(cell.root, &self.ends(cell, level));
+impl Task for Group {
+    fn label(&self) -> &str {
+        &self.label
+    }
+
+    fn grid(&self) -> &Grid {
+        &self.grid
+    }
+
+    fn evidence(&self, root: usize, ends: &Ends) -> Option<Evidence> {
+        let placed = self.placed(root, ends);
         let found = self.conditions.iter().zip(1..).find_map(|(it, number)| Some((number, it.refuted(&placed)?)));
         found.map(|(condition, [farthest, nearest])| Evidence { condition, farthest, nearest })
     }
 
-    fn holds(&self, cell: &Cell, level: u32) -> bool {
-        let placed = self.placed(cell.root, &self.centre(cell, level));
+    fn holds(&self, root: usize, at: &Ends) -> bool {
+        let placed = self.placed(root, at);
         self.conditions.iter().all(|it| it.holds(&placed))
-    }
-
-    fn halves(&self, cell: &Cell, level: u32) -> [Cell; 2] {
-        [0, 1].map(|side| {
-            let mut half = *cell;
-            let turn = level as usize % self.coordinates.len();
-            half.index[turn] = 2 * half.index[turn] + side;
-            half
-        })
-    }
-
-    fn accept(&self, cell: &Cell, level: u32) -> Outcome {
-        let at = self.centre(cell, level).map(|ends| ends[0]);
-        Outcome::Accept { level, root: cell.root as u32 + 1, at: at[..self.coordinates.len()].to_vec() }
-    }
-
-    /// How the search of a budget ends.
-    pub fn judge(&self, budget: u32) -> Outcome {
-        let mut cells: Vec<Cell> = (0..self.roots).map(|root| Cell { root, index: [0; MOST] }).collect();
-        let (mut levels, mut spent) = (Vec::new(), 0);
-        for level in 0..=self.finest() {
-            let kept: Level = cells.iter().map(|cell| self.evidence(cell, level)).collect();
-            let open: Vec<Cell> = cells.iter().zip(&kept).filter(|(_, it)| it.is_none()).map(|(cell, _)| *cell).collect();
-            if let Some(cell) = open.iter().find(|cell| self.holds(cell, level)) {
-                return self.accept(cell, level);
-            }
-            levels.push(kept);
-            let undecided = open.len();
-            if undecided == 0 {
-                return Outcome::Reject { levels };
-            }
-            if level == self.finest() || spent + undecided > budget as usize {
-                let reason = if level == self.finest() { Reason::Floor } else { Reason::Budget };
-                return Outcome::Open { reason, level, undecided, spent, levels };
-            }
-            spent += undecided;
-            cells = open.iter().flat_map(|cell| self.halves(cell, level)).collect();
-        }
-        unreachable!("the search ends at the finest level")
     }
 }
 
 // ---- the numbers of conditions
-
-/// The words of a line, one at a time.
-struct Words<'a>(std::str::SplitWhitespace<'a>);
-
-impl<'a> Words<'a> {
-    fn next(&mut self) -> &'a str {
-        self.0.next().expect("a word more")
-    }
-
-    fn number(&mut self) -> i64 {
-        self.next().parse().expect("a number")
-    }
-
-    /// A number, or `-`.
-    fn some(&mut self) -> Option<i64> {
-        match self.next() {
-            "-" => None,
-            word => Some(word.parse().expect("a number")),
-        }
-    }
-
-    fn three(&mut self) -> [i64; 3] {
-        [self.number(), self.number(), self.number()]
-    }
-}
 
 /// The signed square, for a direction, of so many half units.
 fn limit(half_units: i64, length2: i128) -> i128 {
@@ -404,27 +311,24 @@ fn condition_of(words: &mut Words, table: &Table) -> Condition {
     Condition { surface, direction, point, demand, numbers, apart, offset }
 }
 
-/// The groups of a file of numbers: a line `turn K shift S centre X Y Z`, with K -1 for all rotations; for each group a line
+/// The groups of a text of numbers: a line `turn K shift S centre X Y Z`, with K -1 for all rotations; for each group a line
 /// `group LABEL OFFSETS`, and then its conditions, one a line.
-pub fn groups_of(file: &str, table: &Table) -> Vec<Group> {
-    let text = fs::read_to_string(file).expect("a file of numbers");
+pub fn groups_of(text: &str, table: &Table) -> Vec<Group> {
     let mut lines = text.lines();
-    let mut head = Words(lines.next().expect("a first line").split_whitespace());
+    let mut head = Words::of(lines.next().expect("a first line"));
     let turn = { head.next(); head.number() };
     let shift = { head.next(); head.number() as u32 };
     let centre = { head.next(); head.three() };
     let mut groups: Vec<Group> = Vec::new();
     for line in lines {
-        let mut words = Words(line.split_whitespace());
+        let mut words = Words::of(line);
         if words.next() == "group" {
             let (label, offsets) = (words.next().to_owned(), words.number());
-            let bits = shift + FINE + 1;
-            let about = |middle: i64| Coordinate { low: (middle - (1 << shift)) << FINE, bits };
-            let ratio = || Coordinate { low: -(ONE >> turn.max(0)), bits: 31 - turn.max(0) as u32 };
-            let mut coordinates = vec![ratio(), ratio(), ratio()];
-            coordinates.extend(centre.map(about));
-            coordinates.extend((0..3 * offsets).map(|_| about(0)));
-            groups.push(Group { label, roots: if turn < 0 { 4 } else { 1 }, coordinates, conditions: Vec::new() });
+            let mut coordinates: Vec<_> = (0..3).map(|_| Coordinate::ratio(turn.max(0) as u32)).collect();
+            coordinates.extend(centre.map(|middle| Coordinate::about(middle, shift)));
+            coordinates.extend((0..3 * offsets).map(|_| Coordinate::about(0, shift)));
+            let grid = Grid { roots: if turn < 0 { 4 } else { 1 }, coordinates };
+            groups.push(Group { label, grid, conditions: Vec::new() });
         } else {
             let condition = condition_of(&mut words, table);
             groups.last_mut().expect("a group before its conditions").conditions.push(condition);

@@ -22,13 +22,13 @@ const MEMBERS: u32 = 1_000;
 const ORIGIN: V3 = V3 { x: 0, y: 0, z: 0 };
 
 /// The first point, about which the part is turned.
-const FIRST: V3 = V3 {
+pub const FIRST: V3 = V3 {
     x: 7_919,
     y: 4_724,
     z: 9_988,
 };
 
-const DIRECTION: V3 = V3 { x: 1, y: 2, z: 2 };
+pub const DIRECTION: V3 = V3 { x: 1, y: 2, z: 2 };
 
 const PLANE: Surface = Surface::Plane {
     direction: DIRECTION,

@@ -34,8 +34,8 @@ fn coordinate(draws: &mut Draws) -> i64
 /// One entry of a direction that isn't known exactly, in 2^-30.
 #[derive(Clone, Copy)]
 pub struct Ratio {
-    lo: i64,
-    hi: i64,
+    pub lo: i64,
+    pub hi: i64,
     ghost ordered: { lo ≤ℤ hi },
     ghost small_lo: { unsigned_abs lo ≤ 2 ^ 30 },
     ghost small_hi: { unsigned_abs hi ≤ 2 ^ 30 },

@@ -10,6 +10,11 @@ pub struct Draws {
 }
 
 impl Draws {
+    /// The numbers of the seed.
+    pub fn seeded() -> Draws {
+        Draws { state: 7 }
+    }
+
     /// The next number: 0 or more, and below 2^31.
     pub fn small(&mut self) -> i64
         ensures sign { pos 0 ≤ℤ result }
@@ -50,7 +55,7 @@ pub trait Drawn {
 
 /// A list that depends on its count alone.
 pub fn draw_all<T: Drawn + Drop>(alloc: Global, count: u32) -> Result<Vec<T>, AllocError> {
-    let mut draws = Draws { state: 7 };
+    let mut draws = Draws::seeded();
     let mut all = Vec::new(alloc);
     for _ in 0..count {
         all.push(T::draw(&mut draws))?;

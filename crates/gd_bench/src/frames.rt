@@ -27,14 +27,16 @@ pub fn points_text(alloc: Global) -> Result<String, AllocError> {
     Ok(text)
 }
 
-fn feature_text(alloc: Global, at: u32) -> Result<String, AllocError> {
-    let shape = if at < PLANES { "plane" } else { "axis" };
+/// A feature, of which the first are planes and the others axes.
+pub fn feature_text(alloc: Global, at: u32, planes: u32) -> Result<String, AllocError> {
+    let shape = if at < planes { "plane" } else { "axis" };
     format!(in alloc;
         "[[feature]]\nname = 'f{at}'\nshape = '{shape}'\ndirection = [0, 0, 1]\npoint = [{at}, 0, 0]\n"
     )
 }
 
-fn datum_text(alloc: Global, at: u32) -> Result<String, AllocError> {
+/// The datum of a plane.
+pub fn datum_text(alloc: Global, at: u32) -> Result<String, AllocError> {
     format!(in alloc; "[[datum]]\nname = 'd{at}'\nfeature = 'f{at}'\nslack = 20\n")
 }
 
@@ -60,7 +62,7 @@ pub fn frames_text(alloc: Global) -> Result<String, AllocError> {
     let mut text = String::new(alloc);
     text.push_str("version = 1\nturn = 'all'\n")?;
     for at in 0..FEATURES {
-        text.push_str(feature_text(alloc, at)?.as_str())?;
+        text.push_str(feature_text(alloc, at, PLANES)?.as_str())?;
     }
     for at in 0..PLANES {
         text.push_str(datum_text(alloc, at)?.as_str())?;

@@ -1,18 +1,25 @@
-// The program: it repeats one call over drawn numbers, or the reading of a frame file, and prints a checksum of the answers.
+// The program: it repeats one call over drawn numbers, the reading of a frame file or the making of its groups, and prints a
+// checksum of the answers.
 #![tactic(auto)]
 
 mod conditions;
 mod directions;
 mod draws;
+mod forms;
 mod frames;
+mod groups;
 mod rows;
 
 use conditions::{Place, Turn, condition, judge_all, members_text};
 use directions::{Direction, Point, WideDirection};
 use draws::{Drawn, draw_all};
+use forms::{draw_axes, form_named, judge_axes};
 use frames::{frames_text, points_text, read_once, table_of};
+use gd_axis::Judged;
+use gd_frames::read_frames;
 use gd_points::PointIndex;
 use gd_zone::Subject;
+use groups::{group_once, joined_frames_text, many_points_text};
 use rows::{Factors, Fraction, Radicand, Row, Sides, Square};
 use std::process::ExitCode;
 use std::time::Instant;
@@ -71,6 +78,29 @@ fn measure_frames(rt: &HostRuntime, turns: u32) -> io::Result<Option<Measured>> 
     Ok(Some(Measured { sum, nanoseconds }))
 }
 
+/// The turns of making the groups of a frame file at its limits.
+fn measure_groups(rt: &HostRuntime, turns: u32) -> io::Result<Option<Measured>> {
+    let alloc = rt.alloc();
+    let points = many_points_text(alloc)?;
+    let text = joined_frames_text(alloc)?;
+    let Some(table) = table_of(alloc, points.as_str()) else {
+        return Ok(None);
+    };
+    let Ok(file) = read_frames(alloc, text.as_bytes(), &table) else {
+        return Ok(None);
+    };
+    let Ok(index) = PointIndex::of(alloc, &table) else {
+        return Ok(None);
+    };
+    let start = Instant::now(rt)?;
+    let mut sum = 0;
+    for _ in 0..turns {
+        sum = group_once(alloc, &file, &index, sum);
+    }
+    let nanoseconds = start.elapsed(rt)?.as_nanos();
+    Ok(Some(Measured { sum, nanoseconds }))
+}
+
 /// The turns of bounding the condition of a name over 256 cells, or `None` where none has that name.
 fn measure_condition(rt: &HostRuntime, name: &str, turns: u32) -> io::Result<Option<Measured>> {
     let alloc = rt.alloc();
@@ -92,6 +122,29 @@ fn measure_condition(rt: &HostRuntime, name: &str, turns: u32) -> io::Result<Opt
     Ok(Some(Measured { sum, nanoseconds }))
 }
 
+/// The turns of a form of a name over 256 boxes of axes, or `None` where none has that name.
+fn measure_form(rt: &HostRuntime, name: &str, turns: u32) -> io::Result<Option<Measured>> {
+    let alloc = rt.alloc();
+    let text = members_text(alloc)?;
+    let (Some(form), Some(table)) = (form_named(name), table_of(alloc, text.as_str())) else {
+        return Ok(None);
+    };
+    let Ok(index) = PointIndex::of(alloc, &table) else {
+        return Ok(None);
+    };
+    let Some(judged) = Judged::of(&index, 0, None) else {
+        return Ok(None);
+    };
+    let all = draw_axes(alloc, form.shape, CALLS)?;
+    let start = Instant::now(rt)?;
+    let mut sum = 0;
+    for _ in 0..turns {
+        sum = judge_axes(&judged, &all, form.tolerance, sum);
+    }
+    let nanoseconds = start.elapsed(rt)?.as_nanos();
+    Ok(Some(Measured { sum, nanoseconds }))
+}
+
 /// The kernel of a name, or `None` where none has it.
 fn named(rt: &HostRuntime, name: &str, turns: u32) -> io::Result<Option<Measured>> {
     Ok(Some(match name {
@@ -104,6 +157,8 @@ fn named(rt: &HostRuntime, name: &str, turns: u32) -> io::Result<Option<Measured
         "dot_64" => measure::<Direction>(rt, turns)?,
         "matrix" => measure::<Turn>(rt, turns)?,
         "frames" => return measure_frames(rt, turns),
+        "groups" => return measure_groups(rt, turns),
+        "line" | "circle" | "cylinder" => return measure_form(rt, name, turns),
         _ => return measure_condition(rt, name, turns),
     }))
 }
