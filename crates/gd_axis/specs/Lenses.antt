@@ -1,8 +1,10 @@
 -- What a lens has of a box of axes.
-use Rattle.std.specs.Prelude.{ℤ, ◌≡◌, ◌^◌, ◌+ℤ◌, neg_ℤ, true}
+use Rattle.std.specs.Prelude.{ℤ, ◌≡◌, ◌^◌, ◌+ℤ◌, neg_ℤ}
 use Rattle.gd_axis.specs.AxisTests.{across, direction_ends, span_of}
 use Rattle.gd_axis.specs.Shorts.{ShortVectorFits, short_vector}
 use Rattle.gd_axis.specs.declared.lens.Lens.{Lens}
+use Rattle.gd_axis.specs.declared.lens.Lens.TheVariants.{Plain, Single}
+use Rattle.gd_axis.specs.declared.short.ShortVec.{ShortVec}
 use Rattle.gd_dir.specs.declared.shape.DirBox.{DirBox}
 use Rattle.gd_dir.specs.declared.shape.FormShape.{FormShape}
 use Rattle.gd_dir.specs.declared.shape.FormShape.TheVariants.{Circle}
@@ -27,8 +29,12 @@ pub record IsSingle (b : DirBox) (moves : VectorEnds) : Type 0 where
   pub z : b.lo.z ≡ b.hi.z
   pub offsets : moves ≡ across 0 (direction_ends b) (offsets_off b)
 
--- a lens says that a direction is single only of a circle's
-pub record IsLens (shape : FormShape) (b : DirBox) (l : Lens) : Type 0 where
-  pub circle : l.single ≡ true → shape ≡ Circle
-  pub single : l.single ≡ true → IsSingle b (short_vector l.moves)
-  pub fits : ShortVectorFits (2 ^ 55) l.moves
+-- only a circle's box has a lens of a single direction
+pub record IsSingleLens (shape : FormShape) (b : DirBox) (moves : ShortVec) : Type 0 where
+  pub circle : shape ≡ Circle
+  pub single : IsSingle b (short_vector moves)
+  pub fits : ShortVectorFits (2 ^ 55) moves
+
+abbrev pub IsLens : FormShape → DirBox → Lens → Type 0
+IsLens shape b Plain = Unit {0}
+IsLens shape b (Single moves) = IsSingleLens shape b moves

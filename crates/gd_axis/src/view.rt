@@ -1,5 +1,5 @@
 // The values of points through a lens: for a single direction of whole entries they are linear, but for squares.
-ghost use Rattle.std.specs.Prelude.{◌≡◌, ◌^◌, ◌≤◌, ◌+ℤ◌, ◌-ℤ◌, ◌*ℤ◌, ◌≤ℤ◌, false, neg_ℤ, pos, true, unsigned_abs};
+ghost use Rattle.std.specs.Prelude.{◌≡◌, ◌^◌, ◌≤◌, ◌+ℤ◌, ◌-ℤ◌, ◌*ℤ◌, ◌≤ℤ◌, neg_ℤ, pos, unsigned_abs};
 ghost use Rattle.gd_axis.specs.AxisBoxes.{IsDistance2, IsFormBox};
 ghost use Rattle.gd_axis.specs.AxisTests.{across, direction_ends, from_offset, span_of, value_of};
 ghost use Rattle.gd_axis.specs.Lenses.{IsLens, IsSingle, moved, offsets_off};
@@ -58,23 +58,6 @@ fn all_off(b: &DirBox) -> ShortVec
     }
 }
 
-// The lens of a box that is no single direction's.
-#[inline]
-fn plain() -> Lens
-    ensures single { result.single ≡ false }
-    ensures fits { ShortVectorFits (2 ^ 55) result.moves }
-{
-    let moves = ShortVec {
-        x: span(0, 0),
-        y: span(0, 0),
-        z: span(0, 0),
-    };
-    Lens {
-        single: false,
-        moves,
-    }
-}
-
 // The lens of a box of a single direction.
 #[inline]
 fn single_lens(b: &DirBox, n: &ShortVec) -> Lens
@@ -86,10 +69,7 @@ fn single_lens(b: &DirBox, n: &ShortVec) -> Lens
     requires z_single { n.now.z.lo ≡ n.now.z.hi }
     ensures { IsLens form.Circle b.now result }
 {
-    Lens {
-        single: true,
-        moves: across_single(n, &all_off(b)),
-    }
+    Lens::Single(across_single(n, &all_off(b)))
 }
 
 // The lens of a circle's box.
@@ -102,7 +82,7 @@ fn circle_lens(b: &DirBox) -> Lens
     if is_single(&n) {
         single_lens(b, &n)
     } else {
-        plain()
+        Lens::Plain
     }
 }
 
@@ -112,9 +92,9 @@ pub fn lens_of(over: &AxisBox<'_>) -> Lens
 {
     match over.shape {
         FormShape::Circle => circle_lens(over.b),
-        FormShape::Flat => plain(),
-        FormShape::Line => plain(),
-        FormShape::Cylinder => plain(),
+        FormShape::Flat => Lens::Plain,
+        FormShape::Line => Lens::Plain,
+        FormShape::Cylinder => Lens::Plain,
     }
 }
 
@@ -243,31 +223,31 @@ fn from_own(own: &V3, at: &V3) -> V3
 
 // The cross product of a box's single direction and a point.
 #[inline(always)]
-fn across_offset(lens: &Lens, b: &DirBox, own: &V3, at: &V3) -> ShortVec
+fn across_offset(moves: &ShortVec, b: &DirBox, own: &V3, at: &V3) -> ShortVec
     requires b { IsFormBox form.Circle b.now }
-    requires single { IsSingle b.now (short_vector lens.now.moves) }
-    requires fits { ShortVectorFits (2 ^ 55) lens.now.moves }
+    requires single { IsSingle b.now (short_vector moves.now) }
+    requires fits { ShortVectorFits (2 ^ 55) moves.now }
     requires own { IsWithin POINT_SIZE own.now }
     requires at { IsWithin POINT_SIZE at.now }
     ensures ends { short_vector result ≡ across 0 (direction_ends b.now) (from_offset b.now own.now at.now) }
     ensures size { ShortVectorFits ACROSS_SIZE result }
 {
-    across_moved(&b.lo, &lens.moves, &from_own(own, at))
+    across_moved(&b.lo, moves, &from_own(own, at))
 }
 
 // The value of a point over a box of a single direction.
 #[inline(always)]
-fn single_value(lens: &Lens, b: &DirBox, own: &V3, at: &V3) -> Iv
+fn single_value(moves: &ShortVec, b: &DirBox, own: &V3, at: &V3) -> Iv
     requires b { IsFormBox form.Circle b.now }
-    requires single { IsSingle b.now (short_vector lens.now.moves) }
-    requires fits { ShortVectorFits (2 ^ 55) lens.now.moves }
+    requires single { IsSingle b.now (short_vector moves.now) }
+    requires fits { ShortVectorFits (2 ^ 55) moves.now }
     requires own { IsWithin POINT_SIZE own.now }
     requires at { IsWithin POINT_SIZE at.now }
     ensures ends { ends result ≡ value_of form.Circle b.now own.now at.now }
     ensures lo { IsDistance2 result.lo }
     ensures hi { IsDistance2 result.hi }
 {
-    squared(&across_offset(lens, b, own, at))
+    squared(&across_offset(moves, b, own, at))
 }
 
 /// The value of a point through the lens of a box.
@@ -279,9 +259,8 @@ pub fn value_through(lens: &Lens, over: &AxisBox<'_>, at: &V3) -> Iv
     ensures lo { IsDistance2 result.lo }
     ensures hi { IsDistance2 result.hi }
 {
-    if lens.single {
-        single_value(lens, over.b, &over.own, at)
-    } else {
-        value(over.shape, over.b, &over.own, at)
+    match lens {
+        Lens::Single(moves) => single_value(moves, over.b, &over.own, at),
+        Lens::Plain => value(over.shape, over.b, &over.own, at),
     }
 }

@@ -6,8 +6,6 @@ mod finding;
 mod laws;
 mod outside;
 mod pair;
-#[cfg(test)]
-mod tests;
 mod threshold;
 
 pub use evidence::bound_at;

@@ -5,8 +5,6 @@ mod boxes;
 mod evidence;
 mod laws;
 mod task;
-#[cfg(test)]
-mod tests;
 
 pub use laws::fits_are_meant;
 pub use task::{PlacementTask, placement_task};

@@ -4,8 +4,6 @@
 mod form;
 mod maker;
 mod task;
-#[cfg(test)]
-mod tests;
 
 pub use form::{FormDef, FormTask};
 pub use maker::form_task;

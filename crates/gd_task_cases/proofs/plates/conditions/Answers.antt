@@ -3,7 +3,7 @@ use Rattle.std.proofs.lemmas.List.Elements.{All-push}
 use Rattle.std.specs.List.{All}
 use Rattle.gd_zone.specs.Conditions.{IsCondition}
 use Rattle.gd_zone.specs.declared.condition.Condition.{Condition}
-use Rattle.gd_fit.proofs.tests.conditions.Goals as goal
+use Rattle.gd_task_cases.proofs.plates.conditions.Goals as goal
 
 pub loop-axis-preserved : goal.loop-axis-preserved
 loop-axis-preserved c = record {

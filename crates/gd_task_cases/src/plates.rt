@@ -5,8 +5,8 @@ ghost use Rattle.gd_turn.specs.Ranges.{AreRanges};
 ghost use Rattle.gd_vec.specs.Vector.{IsWithin};
 ghost use Rattle.gd_zone.specs.Conditions.{IsCondition};
 
-use crate::placement_task;
 use gd_cells::Node;
+use gd_fit::placement_task;
 use gd_points::{PointIndex, read_points};
 use gd_search::{Outcome, search};
 use gd_turn::{Ranges, TurnRange};

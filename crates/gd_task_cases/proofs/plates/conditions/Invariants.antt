@@ -1,7 +1,7 @@
 use Rattle.std.proofs.Common.{◌≤◌, ◌+◌, length}
 use Rattle.std.specs.List.{All}
 use Rattle.gd_zone.specs.Conditions.{IsCondition}
-use Rattle.gd_fit.proofs.tests.conditions.Given as goal
+use Rattle.gd_task_cases.proofs.plates.conditions.Given as goal
 
 abbrev pub invariant-loop-axis : goal.invariant-loop-axis
 invariant-loop-axis l = record {

@@ -1,10 +1,10 @@
 // Forms of features through the search, their certificates, and ties of their written tests.
-use crate::{FormDef, FormTask, form_task};
 use gd_base::{Verdict, limits};
 use gd_cells::{MOST_DIMS, Task, Witness};
 use gd_cert::{read_cert, write_cert};
 use gd_check::{CheckAnswer, check};
 use gd_dir::FormShape;
+use gd_form::{FormDef, FormTask, form_task};
 use gd_judge::{Judgement, judge_tasks};
 use gd_points::{PointIndex, read_points};
 use gd_vec::V3;
@@ -34,6 +34,13 @@ const CUBE: &[u8] =
 // Four points that no plane holds, the fourth 10 units above that of the others, between points of the next group.
 const SADDLE: &[u8] =
     b"feature,group,x,y,z\ns,2,7,7,700\ns,1,0,0,0\ns,1,1000,0,0\ns,2,7,7,-700\ns,1,0,1000,0\ns,1,1000,1000,10\n";
+
+// Two points whose coordinates have the sums 14, -15 and 0.
+const SEVENS: &[u8] = b"feature,group,x,y,z\ns,1,0,0,0\ns,1,7,7,0\n";
+
+const EIGHT: &[u8] = b"feature,group,x,y,z\ns,1,0,0,0\ns,1,-8,-7,0\n";
+
+const ACROSS: &[u8] = b"feature,group,x,y,z\ns,1,0,0,0\ns,1,1000,-1000,0\n";
 
 // A form of the first group of the first feature, about the origin and within 16 units of it. None where the group has no
 // point.
@@ -154,29 +161,35 @@ fn certificates(rt: HostRuntime) -> Result<(), Fail> {
     Ok(())
 }
 
-// By hand, at the centre of a root. Across z the points of the saddle lie within 10 units; the distances from the origin are
-// 5,000 and 5,010, from the x axis at most 3, and from the z axis 1,000 and 1,003.
+// By hand. At the centre of a root: across z the points of the saddle lie within 10 units; the distances from the origin
+// are 5,000 and 5,010, from the x axis at most 3, and from the z axis 1,000 and 1,003. At the end of the first ratio a
+// distance is (x + y) over the root of 2: for 14 it is at most 10, and for 15 it isn't.
 #[test]
 fn ties(rt: HostRuntime) -> Result<(), Fail> {
+    let end = 1 << 30;
     let cases = [
-        (SADDLE, FormShape::Flat, 3, 10, true),
-        (SADDLE, FormShape::Flat, 3, 9, false),
-        (ROUND, FormShape::Circle, 1, 10, true),
-        (ROUND, FormShape::Circle, 1, 9, false),
-        (STRAIGHT, FormShape::Line, 1, 6, true),
-        (STRAIGHT, FormShape::Line, 1, 5, false),
-        (DENTED, FormShape::Cylinder, 3, 3, true),
-        (DENTED, FormShape::Cylinder, 3, 2, false),
+        (SADDLE, FormShape::Flat, 3, 0, 10, true),
+        (SADDLE, FormShape::Flat, 3, 0, 9, false),
+        (SEVENS, FormShape::Flat, 1, end, 10, true),
+        (EIGHT, FormShape::Flat, 1, end, 10, false),
+        (ACROSS, FormShape::Flat, 1, end, 0, true),
+        (ROUND, FormShape::Circle, 1, 0, 10, true),
+        (ROUND, FormShape::Circle, 1, 0, 9, false),
+        (STRAIGHT, FormShape::Line, 1, 0, 6, true),
+        (STRAIGHT, FormShape::Line, 1, 0, 5, false),
+        (DENTED, FormShape::Cylinder, 3, 0, 3, true),
+        (DENTED, FormShape::Cylinder, 3, 0, 2, false),
     ];
-    for (file, shape, root, tolerance, want) in cases {
+    for (file, shape, root, ratio, tolerance, want) in cases {
         let table = read_points(rt.alloc(), file).expect(&rt, "a table");
         let index = PointIndex::of(rt.alloc(), &table)?;
         let task = task_of(&index, shape, tolerance).expect(&rt, "a point");
-        let centre = Witness {
+        let mut place = Witness {
             root,
             at: [0; MOST_DIMS],
         };
-        let holds = task.in_range(&centre) && task.holds(&centre);
+        place.at[0] = ratio;
+        let holds = task.in_range(&place) && task.holds(&place);
         assert_eq!(rt; holds, want, "{file:?} {tolerance}");
     }
     Ok(())
