@@ -5,11 +5,9 @@ use Rattle.std.specs.declared.alloc.Global.{Global}
 use Rattle.std.specs.declared.vec.Vec.{Vec}
 use Rattle.std.proofs.lemmas.List.{get_or-map, length-map, map-append, map_more}
 use Rattle.gd_group.specs.Lists.{lists_of}
-use Rattle.gd_group.specs.Tasks.{Asked, asked_by, group_asked}
+use Rattle.gd_group.specs.Tasks.{Asked, asked_by}
 use Rattle.gd_group.specs.declared.group_task.GroupTask.{GroupTask}
 use Rattle.gd_group.specs.declared.requirement.Requirement.{Requirement}
-use Rattle.gd_points.specs.declared.table.Row.{Row}
-use Rattle.gd_tables.specs.Kinds.{File}
 
 abbrev Group : Type 0
 Group = Vec Requirement Global

@@ -41,21 +41,34 @@ fn push_group(
     ensures { OnOk result (lists_of groups.new.items ≡ lists_of groups.old.items
         ++ cond (is_first (file_of file.now) requirement.now) (judged_with (file_of file.now) requirement.now ∷ []) []) }
 {
-    let group = judged_with(alloc, file, requirement)?;
-    if begins(requirement, group.as_slice()) {
-        groups.push(group)?;
+    if is_first(file, requirement) {
+        groups.push(judged_with(alloc, file, requirement)?)?;
     }
     Ok(())
 }
 
-// Whether some requirements begin with one of the same frame.
-fn begins(requirement: &Requirement, group: &[Requirement]) -> bool
-    ensures { result ≡ begins requirement.now group.now }
+// Whether a requirement is the first of what is judged with it.
+fn is_first(file: &FrameFile, requirement: &Requirement) -> bool
+    requires few { length file.now.frames.items ≤ FRAMES }
+    ensures { result ≡ is_first (file_of file.now) requirement.now }
 {
-    match group {
-        [first, ..] => first.frame == requirement.frame,
-        [] => false,
+    match joined_frame(file, requirement) {
+        Some(frame) => leads(file, frame, requirement),
+        None => true,
     }
+}
+
+// Whether the first frame that is joined to a frame is that of a requirement.
+fn leads(file: &FrameFile, frame: &FrameDef, requirement: &Requirement) -> bool
+    requires few { length file.now.frames.items ≤ FRAMES }
+    ensures { result ≡ begins requirement.now (partners (file_of file.now) (frame_of frame.now)) }
+{
+    for number in 0..file.frames.len() {
+        if joins(frame, &file.frames[number]) {
+            return number as u32 == requirement.frame;
+        }
+    }
+    false
 }
 
 // What is judged together with a requirement, itself among it.

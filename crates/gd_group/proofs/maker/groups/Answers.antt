@@ -1,11 +1,10 @@
-use Rattle.std.proofs.Common.{◌∙◌, ◌<◌, ◌≤◌, ap, length, subst, sym}
+use Rattle.std.proofs.Common.{◌∙◌, ◌<◌, ◌≤◌, ap, subst, sym}
 use Rattle.std.specs.List.{All}
 use Rattle.gd_group.proofs.Members.{groups-are, groups-few, groups-some}
 use Rattle.gd_group.proofs.TaskLists.{same-count}
 use Rattle.gd_group.specs.Groups.{groups}
 use Rattle.gd_group.specs.Lists.{lists_of}
 use Rattle.gd_group.specs.Members.{IsGroup}
-use Rattle.gd_group.specs.Requirements.{requirements}
 use Rattle.gd_group.specs.Tasks.{group_asked}
 use Rattle.gd_tables.specs.Kinds.{file_of}
 use Rattle.gd_group.proofs.maker.groups.Goals as goal
