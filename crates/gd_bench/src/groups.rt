@@ -11,8 +11,11 @@ use std::alloc::{AllocError, Global};
 
 /// How many features are planes, which are the datums; the others are axes.
 const PLANES: u32 = 3;
+
 const AXES: u32 = 1_021;
+
 const FRAMES: u32 = 256;
+
 const POINTS: u32 = 200_000;
 
 /// A points file with three contact groups of each plane; all other points are shared out to the axes.
@@ -34,7 +37,9 @@ pub fn many_points_text(alloc: Global) -> Result<String, AllocError> {
 // A frame of 16 axes, but for the last one, which has 4: with twelve conditions of the datum words there are 4,096.
 fn joined_text(alloc: Global, at: u32) -> Result<String, AllocError> {
     let members = if at == 255 { 4 } else { 16 };
-    let mut text = format!(in alloc; "[[frame]]\nname = 'frame{at}'\nkind = 'position'\ntolerance = {at}\n")?;
+    let mut text = format!(in alloc;
+        "[[frame]]\nname = 'frame{at}'\nkind = 'position'\ntolerance = {at}\n"
+    )?;
     text.push_str("datums = ['d0', 'd1', 'd2']\nfeatures = [")?;
     for member in 0..members {
         let feature = PLANES + (at % FRAMES * 16 + member) % AXES;
@@ -96,7 +101,9 @@ fn sum_of(made: &GroupTasks<'_>) -> i128 {
     for task in &made.tasks {
         sum = match task {
             GroupTask::Form(_) => sum.wrapping_add(1),
-            GroupTask::Placed(placed) => sum.wrapping_add(sum_of_subjects(placed.subjects.as_slice())),
+            GroupTask::Placed(placed) => sum.wrapping_add(sum_of_subjects(
+                placed.subjects.as_slice(),
+            )),
         };
     }
     for label in &made.labels {

@@ -8,9 +8,9 @@ ghost use Rattle.gd_zone.specs.Conditions.{HasBounds, IsAxisDemand, IsBallDemand
 
 use gd_bound::{bound, bound_at};
 use gd_cells::Evidence;
-use gd_interval::{Iv, between};
+use gd_interval::{Iv, between, point};
 use gd_points::{PointIndex, read_points};
-use gd_quat::{RotationBox, VecBox, leading_at, matrix};
+use gd_quat::{RotationBox, VecBox, matrix};
 use gd_vec::V3;
 use gd_zone::{Condition, Demand, Placed, Subject, Surface, condition_holds};
 use std::alloc::Global;
@@ -305,8 +305,34 @@ impl Row {
     fn turns(&self) -> RotationBox
         ensures { IsRotationBox result }
     {
-        let face = u32::from(self.number(11).unsigned_abs());
-        leading_at(face, self.ratio(12), self.ratio(14), self.ratio(16))
+        let one = point(1_073_741_824);
+        let (first, second, third) = (self.ratio(12), self.ratio(14), self.ratio(16));
+        match self.number(11) {
+            0 => RotationBox {
+                q0: one,
+                q1: first,
+                q2: second,
+                q3: third,
+            },
+            1 => RotationBox {
+                q0: first,
+                q1: one,
+                q2: second,
+                q3: third,
+            },
+            2 => RotationBox {
+                q0: first,
+                q1: second,
+                q2: one,
+                q3: third,
+            },
+            _ => RotationBox {
+                q0: first,
+                q1: second,
+                q2: third,
+                q3: one,
+            },
+        }
     }
 
     fn placements(&self) -> Placed
